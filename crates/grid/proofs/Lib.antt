@@ -1,0 +1,3 @@
+pub mod References
+pub mod Counts
+pub mod Places

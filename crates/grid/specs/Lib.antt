@@ -1,0 +1,4 @@
+pub mod References
+pub mod Views
+pub mod Kinds
+pub mod Checks

@@ -1,0 +1,2 @@
+pub mod checked;
+pub mod grid;
