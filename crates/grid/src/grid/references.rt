@@ -177,7 +177,8 @@ impl Grid {
         ensures value { λ r. ⌜ r ≡ first-failure (entered kind (of-grid (now (self .entry)))) (holds kind (of-grid (now (self .entry)))) ⌝ }
         ensures few { λ r. ⌜ BySome r (Unit {0}) (λ k. k < 128) ⌝ }
     {
-        for i in 0..self.count_of(kind) {
+        let end = self.count_of(kind);
+        for i in 0..end {
             if !self.entry_holds(kind, i) {
                 return Some(i as u32);
             }

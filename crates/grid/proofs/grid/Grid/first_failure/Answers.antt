@@ -17,8 +17,8 @@ pub returns-then-not-entry-holds : need.returns-then-not-entry-holds
 returns-then-not-entry-holds c =
     let net = of-grid (c .args .self .now) in
     let test = holds (c .args .kind) net in
-    let below : c .loop-i .i < entered (c .args .kind) (of-grid (c .args .self .now)) = omega (arith, c .count-of-i-end .ensures .value) in
+    let below : c .loop-i .i < entered (c .args .kind) (of-grid (c .args .self .now)) = omega (arith, c .count-of-end .ensures .value) in
     record {
       value = sym (first-failure-is (entered (c .args .kind) net) test (Some (c .loop-i .i)) (below, sym (c .if-not-entry-holds .ensures tt), first-failure-none (c .loop-i .i) test (c .loop-i .inv)));
-      few = omega (arith, c .count-of-i-end .ensures .few);
+      few = omega (arith, c .count-of-end .ensures .few);
     }
