@@ -8,6 +8,8 @@ use register::register::Register;
 use std::error::AnyError;
 use std::io;
 
+mod desk;
+mod report;
 mod run;
 mod script;
 

@@ -1,9 +1,16 @@
-// What each command does, and the line that it prints.
+// What each command does, and the lines that it prints.
 ghost use Rattle.register.specs.Rolls.{Within};
+use crate::desk::Desk;
+use crate::desk::piled;
+use crate::report;
+use crate::script::BookPlan;
 use crate::script::Command;
 use crate::script::FaultDisplay;
+use crate::script::RulePlan;
 use crate::script::parse;
+use grid::checked::Checked;
 use grid::grid::Grid;
+use interval::read::read;
 use register::entry::CorridorEntry;
 use register::entry::DnaEntry;
 use register::entry::Entry;
@@ -24,13 +31,14 @@ pub fn lines(
     lines: &[&str],
     start: usize,
 ) -> Result<usize, AnyError> {
+    let mut desk = Desk::new();
     for i in start..lines.len() {
         match parse(rt.alloc(), lines[i]) {
             Ok(Command::Clear) => {
                 println!(rt, "clear")?;
                 return Ok(i + 1);
             }
-            Ok(command) => execute(rt, register, command)?,
+            Ok(command) => execute(rt, register, &mut desk, command)?,
             Err(fault) => {
                 return Err(format!(rt.alloc(), "line {}: {fault}", i + 1)?.into());
             }
@@ -39,7 +47,12 @@ pub fn lines(
     Ok(lines.len())
 }
 
-fn execute(rt: &LibcRuntime, register: &mut Register, command: Command) -> io::Result<()> {
+fn execute(
+    rt: &LibcRuntime,
+    register: &mut Register,
+    desk: &mut Desk,
+    command: Command,
+) -> io::Result<()> {
     match command {
         Command::Nothing | Command::Clear => Ok(()),
         Command::Region(e) => enter(rt, "region", &mut register.regions, e),
@@ -48,6 +61,14 @@ fn execute(rt: &LibcRuntime, register: &mut Register, command: Command) -> io::R
         Command::Point(e) => enter_point(rt, register, e),
         Command::Dna(e) => enter(rt, "dna", &mut register.dnas, e),
         Command::Check => check(rt, register),
+        Command::Book(plan) => choose_book(rt, desk, plan),
+        Command::Segment(link, direction, upper, slope) => {
+            fill_segment(rt, desk, link, direction, upper, slope)
+        }
+        Command::Flows(words) => show_flows(rt, register, desk, words.as_slice()),
+        Command::Rule(plan) => choose_rule(rt, desk, plan),
+        Command::Share(amount) => report::shares(rt, &desk.rule, amount),
+        Command::Read(words) => show_read(rt, register, words.as_slice()),
     }
 }
 
@@ -73,5 +94,57 @@ fn check(rt: &LibcRuntime, register: &mut Register) -> io::Result<()> {
     match Grid::copied(register).references() {
         Ok(()) => println!(rt, "check: all references hold"),
         Err(refusal) => println!(rt, "check {refusal}"),
+    }
+}
+
+fn choose_book(rt: &LibcRuntime, desk: &mut Desk, plan: BookPlan) -> io::Result<()> {
+    desk.plan = plan;
+    println!(rt, "book")
+}
+
+fn fill_segment(
+    rt: &LibcRuntime,
+    desk: &mut Desk,
+    link: u32,
+    direction: u32,
+    upper: u32,
+    slope: u32,
+) -> io::Result<()> {
+    match desk.segments.fill(link, direction, upper, slope) {
+        Ok(()) => println!(rt, "segment"),
+        Err(refusal) => println!(rt, "segment {refusal}"),
+    }
+}
+
+fn choose_rule(rt: &LibcRuntime, desk: &mut Desk, plan: RulePlan) -> io::Result<()> {
+    match piled(&plan) {
+        Ok(rule) => {
+            desk.rule = rule;
+            println!(rt, "rule")
+        }
+        Err(refusal) => println!(rt, "rule {refusal}"),
+    }
+}
+
+fn show_flows(
+    rt: &LibcRuntime,
+    register: &mut Register,
+    desk: &Desk,
+    words: &[u32],
+) -> io::Result<()> {
+    match Checked::copied(register) {
+        Ok(grid) => match read(&grid.grid, words) {
+            Ok((metered, _)) => report::flows(rt, &grid, &metered, &desk.book()),
+            Err(refusal) => println!(rt, "flows {refusal}"),
+        },
+        Err(refusal) => println!(rt, "flows {refusal}"),
+    }
+}
+
+fn show_read(rt: &LibcRuntime, register: &mut Register, words: &[u32]) -> io::Result<()> {
+    let grid = Grid::copied(register);
+    match read(&grid, words) {
+        Ok((metered, used)) => report::interval(rt, &grid, &metered, used),
+        Err(refusal) => println!(rt, "read {refusal}"),
     }
 }

@@ -1,4 +1,4 @@
-// The commands of a script: a line is a command with its numbers, and `#` starts a comment.
+// The commands of a script: a line is a command with its words, and `#` starts a comment.
 use register::entry::Corridor;
 use register::entry::Dna;
 use register::entry::Link;
@@ -9,7 +9,40 @@ use std::alloc::Global;
 use std::alloc::Refused;
 use std::fmt;
 
+// A kind of loss book.
 #[derive(Clone, Copy)]
+pub enum BookKind {
+    Lossless,
+    Segments,
+}
+
+// Which book serves which links: `first` the links below `low`, `second` those below `high`, `third` the others.
+#[derive(Clone, Copy)]
+pub struct BookPlan {
+    pub low: u32,
+    pub first: BookKind,
+    pub high: u32,
+    pub second: BookKind,
+    pub third: BookKind,
+}
+
+#[derive(Clone, Copy)]
+pub enum RuleKind {
+    Equal,
+    Running,
+    Nearest,
+}
+
+// A rule with its numbers, under `piled` derogations, of which the first is on top.
+#[derive(Drop)]
+pub struct RulePlan {
+    pub piled: usize,
+    pub parts: [u32; 2],
+    pub kind: RuleKind,
+    pub numbers: Vec<u32>,
+}
+
+#[derive(Drop)]
 pub enum Command {
     Nothing,
     Region(Region),
@@ -19,6 +52,12 @@ pub enum Command {
     Dna(Dna),
     Check,
     Clear,
+    Book(BookPlan),
+    Segment(u32, u32, u32, u32),
+    Flows(Vec<u32>),
+    Rule(RulePlan),
+    Share(i64),
+    Read(Vec<u32>),
 }
 
 // Why a line is no command.
@@ -32,14 +71,12 @@ pub enum Fault {
 
 pub impl fmt::Display for Fault as FaultDisplay {
     fn fmt<W: fmt::Write>(&self, f: &mut fmt::Formatter<W>) -> fmt::Result {
-        f.write_str(
-            match self {
-                Fault::UnknownCommand => "unknown command",
-                Fault::WordCount => "wrong number of words",
-                Fault::BadNumber => "not a number, or one that does not fit",
-                Fault::Memory => "out of memory",
-            },
-        )
+        f.write_str(match self {
+            Fault::UnknownCommand => "unknown command",
+            Fault::WordCount => "wrong number of words",
+            Fault::BadNumber => "not a number, or one that does not fit",
+            Fault::Memory => "out of memory",
+        })
     }
 }
 
@@ -56,7 +93,7 @@ pub impl<T: Drop> From<Refused<T>> for Fault as FaultFromRefused {
 }
 
 // A number in decimal, or in hexadecimal after 0x.
-pub fn number(word: &str) -> Result<u32, Fault> {
+fn number(word: &str) -> Result<u32, Fault> {
     let read = match word.strip_prefix("0x") {
         Some(digits) => u32::from_str_radix(digits, 16),
         None => word.parse::<u32>(),
@@ -67,6 +104,22 @@ pub fn number(word: &str) -> Result<u32, Fault> {
     }
 }
 
+// A decimal number with a sign.
+fn signed(word: &str) -> Result<i64, Fault> {
+    match word.parse::<i64>() {
+        Ok(n) => Ok(n),
+        Err(_) => Err(Fault::BadNumber),
+    }
+}
+
+fn numbers(heap: Global, words: &[&str]) -> Result<Vec<u32>, Fault> {
+    let mut all = Vec::new(heap);
+    for word in words {
+        all.push(number(word)?)?;
+    }
+    Ok(all)
+}
+
 // The command of a line; a line of blanks and comment alone is `Nothing`.
 pub fn parse(heap: Global, line: &str) -> Result<Command, Fault> {
     let text = match line.split_once('#') {
@@ -74,13 +127,13 @@ pub fn parse(heap: Global, line: &str) -> Result<Command, Fault> {
         None => line,
     };
     let words: Vec<&str> = text.split_whitespace().collect(heap)?;
-    let Some(name) = words.first() else {
-        return Ok(Command::Nothing);
-    };
-    named(name, &words[1..])
+    match words.as_slice() {
+        [] => Ok(Command::Nothing),
+        [name, rest @ ..] => named(heap, name, rest),
+    }
 }
 
-fn named(name: &str, words: &[&str]) -> Result<Command, Fault> {
+fn named(heap: Global, name: &str, words: &[&str]) -> Result<Command, Fault> {
     match name {
         "region" => read_region(words),
         "corridor" => read_corridor(words),
@@ -89,6 +142,12 @@ fn named(name: &str, words: &[&str]) -> Result<Command, Fault> {
         "dna" => read_dna(words),
         "check" => alone(words, Command::Check),
         "clear" => alone(words, Command::Clear),
+        "book" => read_book(words),
+        "segment" => read_segment(words),
+        "flows" => read_flows(heap, words),
+        "rule" => read_rule(heap, words),
+        "share" => read_share(words),
+        "read" => Ok(Command::Read(numbers(heap, words)?)),
         _ => Err(Fault::UnknownCommand),
     }
 }
@@ -154,36 +213,133 @@ fn alone(words: &[&str], command: Command) -> Result<Command, Fault> {
     }
 }
 
-#[cfg(test)]
-mod tests {
-    use super::Command;
-    use super::Fault;
-    use super::FaultDebug;
-    use super::FaultPartialEq;
-    use super::parse;
-    use std::alloc::Global;
-    use std::test::*;
+fn book_kind(word: &str) -> Result<BookKind, Fault> {
+    match word {
+        "lossless" => Ok(BookKind::Lossless),
+        "segments" => Ok(BookKind::Segments),
+        _ => Err(Fault::UnknownCommand),
+    }
+}
 
-    // The fault of a line, or none.
-    fn fault(heap: Global, line: &str) -> Option<Fault> {
-        match parse(heap, line) {
-            Ok(_) => None,
-            Err(fault) => Some(fault),
+// `lossless`, `segments`, `split N KIND KIND`, or a split whose second book is a split.
+fn read_book(words: &[&str]) -> Result<Command, Fault> {
+    match words {
+        [kind] => {
+            let first = book_kind(kind)?;
+            Ok(Command::Book(BookPlan {
+                low: 8,
+                first,
+                high: 8,
+                second: first,
+                third: first,
+            }))
+        }
+        ["split", low, first, second] => Ok(Command::Book(BookPlan {
+            low: number(low)?,
+            first: book_kind(first)?,
+            high: 8,
+            second: book_kind(second)?,
+            third: BookKind::Lossless,
+        })),
+        ["split", low, first, "split", high, second, third] => Ok(Command::Book(BookPlan {
+            low: number(low)?,
+            first: book_kind(first)?,
+            high: number(high)?,
+            second: book_kind(second)?,
+            third: book_kind(third)?,
+        })),
+        _ => Err(Fault::WordCount),
+    }
+}
+
+fn read_segment(words: &[&str]) -> Result<Command, Fault> {
+    let [link, direction, upper, slope] = words else {
+        return Err(Fault::WordCount);
+    };
+    Ok(Command::Segment(
+        number(link)?,
+        number(direction)?,
+        number(upper)?,
+        number(slope)?,
+    ))
+}
+
+fn read_share(words: &[&str]) -> Result<Command, Fault> {
+    let [amount] = words else {
+        return Err(Fault::WordCount);
+    };
+    Ok(Command::Share(signed(amount)?))
+}
+
+// A figure of a region or link in an interval word: the kind and the number above it, 24 bits in two's complement.
+fn figure_word(kind: u32, i: usize, word: &str) -> Result<u32, Fault> {
+    let value = signed(word)?;
+    if value < -0x80_0000 || value > 0x7f_ffff || i > 15 || kind > 15 {
+        return Err(Fault::BadNumber);
+    }
+    let low = value.rem_euclid(0x100_0000) as u32;
+    Ok((kind << 28) + ((i as u32) << 24) + low)
+}
+
+// Appends the words of one kind of figures.
+fn push_figures(words: &mut Vec<u32>, kind: u32, figures: &[&str]) -> Result<(), Fault> {
+    for (i, figure) in figures.iter().enumerate() {
+        words.push(figure_word(kind, i, figure)?)?;
+    }
+    Ok(())
+}
+
+// `flows F.. prices P..`, as the words of an interval without readings.
+fn read_flows(heap: Global, words: &[&str]) -> Result<Command, Fault> {
+    let mut split = words.len();
+    for (i, word) in words.iter().enumerate() {
+        if *word == "prices" && i < split {
+            split = i;
         }
     }
+    if split >= words.len() || words.len() > 33 {
+        return Err(Fault::WordCount);
+    }
+    let mut all = Vec::new(heap);
+    all.push(0x1000_0000)?;
+    push_figures(&mut all, 2, &words[split + 1..])?;
+    push_figures(&mut all, 3, &words[0..split])?;
+    all.push(0x6000_0000 + words.len() as u32)?;
+    Ok(Command::Flows(all))
+}
 
-    #[test]
-    fn lines_that_are_no_command(rt: LibcRuntime) -> Result<(), Fail> {
-        let heap = rt.alloc();
-        check_eq(fault(heap, "region 4294967295"), None)?;
-        check_eq(fault(heap, "region 4294967296"), Some(Fault::BadNumber))?;
-        check_eq(fault(heap, "region 0x1FFFFFFFF"), Some(Fault::BadNumber))?;
-        check_eq(fault(heap, "region -1"), Some(Fault::BadNumber))?;
-        check_eq(fault(heap, "corridor 0 x"), Some(Fault::BadNumber))?;
-        check_eq(fault(heap, "corridor 0"), Some(Fault::WordCount))?;
-        check_eq(fault(heap, "point 0 0 1 2 3"), Some(Fault::WordCount))?;
-        check_eq(fault(heap, "check 1"), Some(Fault::WordCount))?;
-        check_eq(fault(heap, "Region 1"), Some(Fault::UnknownCommand))?;
-        check_eq(fault(heap, "  # region"), None)
+fn rule_kind(word: &str) -> Result<RuleKind, Fault> {
+    match word {
+        "equal" => Ok(RuleKind::Equal),
+        "running" => Ok(RuleKind::Running),
+        "nearest" => Ok(RuleKind::Nearest),
+        _ => Err(Fault::UnknownCommand),
+    }
+}
+
+fn plan(
+    heap: Global,
+    piled: usize,
+    parts: [u32; 2],
+    kind: &str,
+    words: &[&str],
+) -> Result<Command, Fault> {
+    Ok(Command::Rule(RulePlan {
+        piled,
+        parts,
+        kind: rule_kind(kind)?,
+        numbers: numbers(heap, words)?,
+    }))
+}
+
+// A kind with its numbers, after none, one or two `derogation P`.
+fn read_rule(heap: Global, words: &[&str]) -> Result<Command, Fault> {
+    match words {
+        ["derogation", top, "derogation", next, kind, rest @ ..] => {
+            plan(heap, 2, [number(top)?, number(next)?], kind, rest)
+        }
+        ["derogation", top, kind, rest @ ..] => plan(heap, 1, [number(top)?, 0], kind, rest),
+        [kind, rest @ ..] => plan(heap, 0, [0, 0], kind, rest),
+        [] => Err(Fault::WordCount),
     }
 }

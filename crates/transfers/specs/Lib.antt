@@ -1,1 +1,5 @@
 pub mod Ends
+pub mod Links
+pub mod Held
+pub mod Carries
+pub mod Sums

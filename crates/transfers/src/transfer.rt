@@ -29,6 +29,20 @@ fn share(part: u32, energy: u32) -> i64
     (u64::from(part) * u64::from(energy)) as i64
 }
 
+// What enters a link at the exporting region and leaves it at the importing one, where `loss` is lost between them.
+pub(crate) fn ends(flow: i32, part1: u32, loss: u32) -> (i64, i64)
+    ensures entry { λ r. ⌜ r .0 ≡ entering (exporting flow (min part1 10000)) (natAbs flow) loss ⌝ }
+    ensures exit { λ r. ⌜ r .1 ≡ leaving (exporting flow (min part1 10000)) (natAbs flow) loss ⌝ }
+    ensures part { λ r. ⌜ exporting flow (min part1 10000) ≤ 10000 ⌝ }
+{
+    let part = exporting_part(flow, part1);
+    let carried = share(WHOLE, flow.unsigned_abs());
+    (
+        carried + share(part, loss),
+        carried - share(WHOLE - part, loss),
+    )
+}
+
 // What enters a link at the exporting region and leaves it at the importing one, in node units: entry and exit.
 // Region 1 bears `part1` ten-thousandths of the loss, and region 2 the rest. The flow is from region 1 where it is
 // above 0, and from region 2 below. A part above 10,000 counts as 10,000, and a loss above the size of the flow as
@@ -39,12 +53,5 @@ pub fn transfer(flow: i32, part1: u32, loss: u32) -> (i64, i64)
     ensures lost { λ r. ⌜ r .0 -ℤ r .1 ≡ pos (10000 * min loss (natAbs flow)) ⌝ }
     ensures outward { λ r. ⌜ pos 0 ≤ℤ r .1 ⌝ }
 {
-    let size = flow.unsigned_abs();
-    let part = exporting_part(flow, part1);
-    let carried = share(WHOLE, size);
-    let lost = loss.min(size);
-    (
-        carried + share(part, lost),
-        carried - share(WHOLE - part, lost),
-    )
+    ends(flow, part1, loss.min(flow.unsigned_abs()))
 }

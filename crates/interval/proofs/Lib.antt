@@ -1,0 +1,4 @@
+pub mod Order
+pub mod Filled
+pub mod Metering
+pub mod Whole

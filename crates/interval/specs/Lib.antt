@@ -1,0 +1,7 @@
+pub mod Ranges
+pub mod Figures
+pub mod Words
+pub mod Spelling
+pub mod Laws
+pub mod Views
+pub mod Steps

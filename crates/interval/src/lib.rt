@@ -1,0 +1,5 @@
+pub mod interval;
+mod part;
+pub mod read;
+mod readings;
+mod word;
