@@ -7,12 +7,25 @@ use interval::interval::Interval;
 use losses::book::LossBook;
 use sharing::rule::SharingRule;
 use std::alloc::AllocError;
+use std::fmt::Display;
 use std::io;
 use transfers::links::Carried;
 use transfers::links::Interchange;
 use transfers::links::direction;
 use transfers::links::sign;
 use units::amount::Amount;
+
+// Appends a name and a number.
+fn push_field<T: Display + Drop>(
+    rt: &LibcRuntime,
+    line: &mut String,
+    name: &str,
+    number: T,
+) -> Result<(), AllocError> {
+    line.push_str(name)?;
+    let word = format!(rt.alloc(), " {number}")?;
+    line.push_str(word.as_str())
+}
 
 // Each link's loss, entry and exit, each corridor's residue, and each region's net export.
 pub fn flows<B: LossBook>(
@@ -22,104 +35,94 @@ pub fn flows<B: LossBook>(
     book: &B,
 ) -> io::Result<()> {
     for link in 0..8usize {
-        link_line(rt, grid, metered, book, link)?;
+        if let Some(c) = Carried::by(grid, metered, book, link) {
+            let loss = book.loss(link as u32, metered.flows[link]);
+            link_line(rt, link, loss, &c)?;
+        }
     }
     let sums = Interchange::of(grid, metered, book);
     for corridor in 0..grid.grid.corridor_count {
-        let residue = sums.residues[corridor];
-        let amount = Amount::of_grains(residue);
-        let cents = amount.cents();
-        let grains = amount.grains();
-        let way = direction(sums.flows[corridor]);
-        let owed = sign(residue);
-        println!(
-            rt,
-            "corridor {corridor} cents {cents} grains {grains} direction {way} sign {owed}"
-        )?;
+        corridor_line(rt, corridor, sums.residues[corridor], sums.flows[corridor])?;
     }
     for region in 0..grid.grid.region_count {
-        let net = sums.exports[region];
-        println!(rt, "region {region} net {net}")?;
+        let mut line = String::new(rt.alloc());
+        push_field(rt, &mut line, "region", region)?;
+        push_field(rt, &mut line, " net", sums.exports[region])?;
+        rt.println(line)?;
     }
     Ok(())
 }
 
-fn link_line<B: LossBook>(
-    rt: &LibcRuntime,
-    grid: &Checked,
-    metered: &Interval,
-    book: &B,
-    link: usize,
-) -> io::Result<()> {
-    match Carried::by(grid, metered, book, link) {
-        Some(c) => {
-            let loss = if link < 8 {
-                book.loss(link as u32, metered.flows[link])
-            } else {
-                0
-            };
-            println!(
-                rt,
-                "link {link} from {} to {} loss {loss} entry {} exit {}",
-                c.exporter,
-                c.importer,
-                c.entry,
-                c.exit
-            )
-        }
-        None => Ok(()),
-    }
+fn link_line(rt: &LibcRuntime, link: usize, loss: u32, c: &Carried) -> io::Result<()> {
+    let mut line = String::new(rt.alloc());
+    push_field(rt, &mut line, "link", link)?;
+    push_field(rt, &mut line, " from", c.exporter)?;
+    push_field(rt, &mut line, " to", c.importer)?;
+    push_field(rt, &mut line, " loss", loss)?;
+    push_field(rt, &mut line, " entry", c.entry)?;
+    push_field(rt, &mut line, " exit", c.exit)?;
+    rt.println(line)
+}
+
+fn corridor_line(rt: &LibcRuntime, corridor: usize, residue: i64, flows: i64) -> io::Result<()> {
+    let amount = Amount::of_grains(residue);
+    let mut line = String::new(rt.alloc());
+    push_field(rt, &mut line, "corridor", corridor)?;
+    push_field(rt, &mut line, " cents", amount.cents())?;
+    push_field(rt, &mut line, " grains", amount.grains())?;
+    push_field(rt, &mut line, " direction", direction(flows))?;
+    push_field(rt, &mut line, " sign", sign(residue))?;
+    rt.println(line)
 }
 
 // The shares of an amount, or that the rule has too many owners to show.
 pub fn shares(rt: &LibcRuntime, rule: &Pile, amount: i64) -> io::Result<()> {
+    let mut line = String::new(rt.alloc());
+    push_field(rt, &mut line, "share", amount)?;
     let owners = rule.owners() as usize;
     if owners > 64 {
-        return println!(rt, "share {amount}: over 64 owners");
+        line.push_str(": over 64 owners")?;
+        return rt.println(line);
     }
+    line.push_str(":")?;
     let mut row = [0; 64];
     rule.give(amount, &mut row);
-    let mut line = format!(rt.alloc(), "share {amount}:")?;
     for share in &row[0..owners] {
-        push_number(rt, &mut line, *share)?;
+        push_field(rt, &mut line, "", *share)?;
     }
     rt.println(line)
-}
-
-fn push_number(rt: &LibcRuntime, line: &mut String, number: i64) -> Result<(), AllocError> {
-    let word = format!(rt.alloc(), " {number}")?;
-    line.push_str(word.as_str())
 }
 
 // The figures of an interval, and how many words it used; readings of 0 are left out.
 pub fn interval(rt: &LibcRuntime, grid: &Grid, metered: &Interval, used: usize) -> io::Result<()> {
-    let number = metered.number;
-    let mut line = format!(rt.alloc(), "read {used} words: number {number} prices")?;
+    let mut line = String::new(rt.alloc());
+    push_field(rt, &mut line, "read words", used)?;
+    push_field(rt, &mut line, " number", metered.number)?;
+    line.push_str(" prices")?;
     for region in 0..grid.region_count {
-        push_number(rt, &mut line, i64::from(metered.prices[region]))?;
+        push_field(rt, &mut line, "", metered.prices[region])?;
     }
     line.push_str(" flows")?;
     for link in 0..grid.link_count {
-        push_number(rt, &mut line, i64::from(metered.flows[link]))?;
+        push_field(rt, &mut line, "", metered.flows[link])?;
     }
-    line.push_str(" sent")?;
-    push_readings(rt, &mut line, &metered.sent)?;
-    line.push_str(" taken")?;
-    push_readings(rt, &mut line, &metered.taken)?;
+    push_readings(rt, &mut line, " sent", &metered.sent)?;
+    push_readings(rt, &mut line, " taken", &metered.taken)?;
     rt.println(line)
 }
 
-// Readings as POINT:KWH.
+// Readings that are not 0, each as POINT KWH.
 fn push_readings(
     rt: &LibcRuntime,
     line: &mut String,
+    name: &str,
     readings: &[u32; 128],
 ) -> Result<(), AllocError> {
     for point in 0..128usize {
         let energy = readings[point];
         if energy != 0 {
-            let word = format!(rt.alloc(), " {point}:{energy}")?;
-            line.push_str(word.as_str())?;
+            push_field(rt, line, name, point)?;
+            push_field(rt, line, "", energy)?;
         }
     }
     Ok(())

@@ -8,9 +8,11 @@ use crate::script::Command;
 use crate::script::FaultDisplay;
 use crate::script::RulePlan;
 use crate::script::parse;
+use chosen::book::AnyBookLosses;
 use grid::checked::Checked;
 use grid::grid::Grid;
 use interval::read::read;
+use losses::split::SplitBook;
 use register::entry::CorridorEntry;
 use register::entry::DnaEntry;
 use register::entry::Entry;
@@ -22,6 +24,7 @@ use register::register::Register;
 use register::roll::Roll;
 use std::error::AnyError;
 use std::io;
+use units::refusal::Refusal;
 use units::refusal::RefusalDisplay;
 
 // Runs the lines from `start` up to a `clear`, and answers the line after it. A line that is no command ends the run.
@@ -35,7 +38,7 @@ pub fn lines(
     for i in start..lines.len() {
         match parse(rt.alloc(), lines[i]) {
             Ok(Command::Clear) => {
-                println!(rt, "clear")?;
+                rt.println("clear")?;
                 return Ok(i + 1);
             }
             Ok(command) => execute(rt, register, &mut desk, command)?,
@@ -72,13 +75,17 @@ fn execute(
     }
 }
 
+fn refused(rt: &LibcRuntime, name: &str, refusal: Refusal) -> io::Result<()> {
+    println!(rt, "{name} {refusal}")
+}
+
 // Enters an entry of any kind, and prints its number or the refusal.
 fn enter<E: Entry>(rt: &LibcRuntime, kind: &str, roll: &mut Roll<E>, e: E) -> io::Result<()>
     ensures { λ _. ⌜ (Within (E·Entry .greatest) (now (roll .entry)) → Within (E·Entry .greatest) (now (roll .exit))) ⌝ }
 {
     match roll.enter(e) {
         Ok(number) => println!(rt, "{kind} {number}"),
-        Err(refusal) => println!(rt, "{kind} {refusal}"),
+        Err(refusal) => refused(rt, kind, refusal),
     }
 }
 
@@ -86,20 +93,20 @@ fn enter_point(rt: &LibcRuntime, register: &mut Register, e: Point) -> io::Resul
     let factor = e.factor();
     match register.points.enter(e) {
         Ok(number) => println!(rt, "point {number} factor {factor}"),
-        Err(refusal) => println!(rt, "point {refusal}"),
+        Err(refusal) => refused(rt, "point", refusal),
     }
 }
 
 fn check(rt: &LibcRuntime, register: &mut Register) -> io::Result<()> {
     match Grid::copied(register).references() {
-        Ok(()) => println!(rt, "check: all references hold"),
-        Err(refusal) => println!(rt, "check {refusal}"),
+        Ok(()) => rt.println("check: all references hold"),
+        Err(refusal) => refused(rt, "check", refusal),
     }
 }
 
 fn choose_book(rt: &LibcRuntime, desk: &mut Desk, plan: BookPlan) -> io::Result<()> {
     desk.plan = plan;
-    println!(rt, "book")
+    rt.println("book")
 }
 
 fn fill_segment(
@@ -111,8 +118,8 @@ fn fill_segment(
     slope: u32,
 ) -> io::Result<()> {
     match desk.segments.fill(link, direction, upper, slope) {
-        Ok(()) => println!(rt, "segment"),
-        Err(refusal) => println!(rt, "segment {refusal}"),
+        Ok(()) => rt.println("segment"),
+        Err(refusal) => refused(rt, "segment", refusal),
     }
 }
 
@@ -120,10 +127,22 @@ fn choose_rule(rt: &LibcRuntime, desk: &mut Desk, plan: RulePlan) -> io::Result<
     match piled(&plan) {
         Ok(rule) => {
             desk.rule = rule;
-            println!(rt, "rule")
+            rt.println("rule")
         }
-        Err(refusal) => println!(rt, "rule {refusal}"),
+        Err(refusal) => refused(rt, "rule", refusal),
     }
+}
+
+// Shows what the links carry, or answers the refusal of the register or the words.
+fn try_flows(
+    rt: &LibcRuntime,
+    register: &mut Register,
+    desk: &Desk,
+    words: &[u32],
+) -> Result<io::Result<()>, Refusal> {
+    let grid = Checked::copied(register)?;
+    let (metered, _) = read(&grid.grid, words)?;
+    Ok(report::flows(rt, &grid, &metered, &desk.book()))
 }
 
 fn show_flows(
@@ -132,19 +151,26 @@ fn show_flows(
     desk: &Desk,
     words: &[u32],
 ) -> io::Result<()> {
-    match Checked::copied(register) {
-        Ok(grid) => match read(&grid.grid, words) {
-            Ok((metered, _)) => report::flows(rt, &grid, &metered, &desk.book()),
-            Err(refusal) => println!(rt, "flows {refusal}"),
-        },
-        Err(refusal) => println!(rt, "flows {refusal}"),
+    match try_flows(rt, register, desk, words) {
+        Ok(shown) => shown,
+        Err(refusal) => refused(rt, "flows", refusal),
     }
 }
 
-fn show_read(rt: &LibcRuntime, register: &mut Register, words: &[u32]) -> io::Result<()> {
+// Shows the interval that is read, or answers the refusal.
+fn try_read(
+    rt: &LibcRuntime,
+    register: &mut Register,
+    words: &[u32],
+) -> Result<io::Result<()>, Refusal> {
     let grid = Grid::copied(register);
-    match read(&grid, words) {
-        Ok((metered, used)) => report::interval(rt, &grid, &metered, used),
-        Err(refusal) => println!(rt, "read {refusal}"),
+    let (metered, used) = read(&grid, words)?;
+    Ok(report::interval(rt, &grid, &metered, used))
+}
+
+fn show_read(rt: &LibcRuntime, register: &mut Register, words: &[u32]) -> io::Result<()> {
+    match try_read(rt, register, words) {
+        Ok(shown) => shown,
+        Err(refusal) => refused(rt, "read", refusal),
     }
 }

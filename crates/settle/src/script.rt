@@ -71,12 +71,14 @@ pub enum Fault {
 
 pub impl fmt::Display for Fault as FaultDisplay {
     fn fmt<W: fmt::Write>(&self, f: &mut fmt::Formatter<W>) -> fmt::Result {
-        f.write_str(match self {
-            Fault::UnknownCommand => "unknown command",
-            Fault::WordCount => "wrong number of words",
-            Fault::BadNumber => "not a number, or one that does not fit",
-            Fault::Memory => "out of memory",
-        })
+        f.write_str(
+            match self {
+                Fault::UnknownCommand => "unknown command",
+                Fault::WordCount => "wrong number of words",
+                Fault::BadNumber => "not a number, or one that does not fit",
+                Fault::Memory => "out of memory",
+            },
+        )
     }
 }
 
@@ -223,32 +225,38 @@ fn book_kind(word: &str) -> Result<BookKind, Fault> {
 
 // `lossless`, `segments`, `split N KIND KIND`, or a split whose second book is a split.
 fn read_book(words: &[&str]) -> Result<Command, Fault> {
-    match words {
-        [kind] => {
-            let first = book_kind(kind)?;
-            Ok(Command::Book(BookPlan {
-                low: 8,
-                first,
-                high: 8,
-                second: first,
-                third: first,
-            }))
-        }
-        ["split", low, first, second] => Ok(Command::Book(BookPlan {
-            low: number(low)?,
-            first: book_kind(first)?,
-            high: 8,
-            second: book_kind(second)?,
-            third: BookKind::Lossless,
-        })),
-        ["split", low, first, "split", high, second, third] => Ok(Command::Book(BookPlan {
-            low: number(low)?,
-            first: book_kind(first)?,
-            high: number(high)?,
-            second: book_kind(second)?,
-            third: book_kind(third)?,
-        })),
-        _ => Err(Fault::WordCount),
+    let mut plan = BookPlan {
+        low: 8,
+        first: BookKind::Lossless,
+        high: 8,
+        second: BookKind::Lossless,
+        third: BookKind::Lossless,
+    };
+    if words.len() == 1 {
+        plan.first = book_kind(words[0])?;
+        return Ok(Command::Book(plan));
+    }
+    if words.len() != 4 && words.len() != 7 {
+        return Err(Fault::WordCount);
+    }
+    plan.low = split_at(words[0], words[1])?;
+    plan.first = book_kind(words[2])?;
+    if words.len() == 4 {
+        plan.second = book_kind(words[3])?;
+    } else {
+        plan.high = split_at(words[3], words[4])?;
+        plan.second = book_kind(words[5])?;
+        plan.third = book_kind(words[6])?;
+    }
+    Ok(Command::Book(plan))
+}
+
+// The number of a `split N`.
+fn split_at(name: &str, at: &str) -> Result<u32, Fault> {
+    if name == "split" {
+        number(at)
+    } else {
+        Err(Fault::UnknownCommand)
     }
 }
 
@@ -317,29 +325,25 @@ fn rule_kind(word: &str) -> Result<RuleKind, Fault> {
     }
 }
 
-fn plan(
-    heap: Global,
-    piled: usize,
-    parts: [u32; 2],
-    kind: &str,
-    words: &[&str],
-) -> Result<Command, Fault> {
+// A kind with its numbers, after none, one or two `derogation P`.
+fn read_rule(heap: Global, words: &[&str]) -> Result<Command, Fault> {
+    let mut parts = [0; 2];
+    let mut piled = 0;
+    for i in 0..2usize {
+        if piled == i && words.len() > 2 * i + 1 && words[2 * i] == "derogation" {
+            parts[i] = number(words[2 * i + 1])?;
+            piled = i + 1;
+        }
+    }
+    if words.len() <= 2 * piled {
+        return Err(Fault::WordCount);
+    }
+    let kind = rule_kind(words[2 * piled])?;
+    let numbers = numbers(heap, &words[2 * piled + 1..])?;
     Ok(Command::Rule(RulePlan {
         piled,
         parts,
-        kind: rule_kind(kind)?,
-        numbers: numbers(heap, words)?,
+        kind,
+        numbers,
     }))
-}
-
-// A kind with its numbers, after none, one or two `derogation P`.
-fn read_rule(heap: Global, words: &[&str]) -> Result<Command, Fault> {
-    match words {
-        ["derogation", top, "derogation", next, kind, rest @ ..] => {
-            plan(heap, 2, [number(top)?, number(next)?], kind, rest)
-        }
-        ["derogation", top, kind, rest @ ..] => plan(heap, 1, [number(top)?, 0], kind, rest),
-        [kind, rest @ ..] => plan(heap, 0, [0, 0], kind, rest),
-        [] => Err(Fault::WordCount),
-    }
 }

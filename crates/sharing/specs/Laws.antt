@@ -10,7 +10,7 @@ use Rattle.sharing.specs.Rules.{Rule, Lawful, limit, part-down, part-rest}
 abbrev pub rounded-up : Rule → ℤ → ℕ
 rounded-up r a = tally (r .owners) (λ k. ltZ (part-down a (r .numerator k) (r .denominator)) (r .share k a))
 
--- Under a rule of slack 1 they are at least one fewer than the owners: as many as the cents that rounding down leaves.
+-- Under a rule of slack 1 they are at most one fewer than the owners, and exactly as many as the cents that the rests come to.
 abbrev pub OddCents : Type 0
 OddCents = (r : Rule) → Lawful r → r .slack ≡ 1 → (a : ℤ) → natAbs a ≤ limit →
     (rounded-up r a ≤ r .owners - 1)

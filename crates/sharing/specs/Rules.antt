@@ -41,6 +41,7 @@ pub record Rule : Type 0 where
 abbrev pub off : Rule → ℕ → ℤ → ℤ
 off r k a = (r .share k a *ℤ pos (r .denominator)) -ℤ (a *ℤ pos (r .numerator k))
 
+-- the laws: numerators make up the denominator, shares make up the amount, and each share is within the slack of its exact part
 pub record Lawful (r : Rule) : Type 0 where
   pub some-owner : 1 ≤ r .owners
   pub some-part : 1 ≤ r .denominator

@@ -5,12 +5,12 @@ use mathlib.Core.Logic.{⊎-elim}
 use Prim.Native.Nat.{ℕ, _+_, _*_, _^_, _≤_, _<_}
 use native.Mathlib.Nat.{mul-le-mul-right}
 use native.Mathlib.Omega.{arith}
-use lib.Dec.{eqb, ltb}
-use lib.ListN.{length, getD, set, replicate}
+use lib.Dec.{eqb}
+use lib.ListN.{length, getD}
 use lib.IntN.{ℤ, pos, natAbs, _+ℤ_}
 use borrow.Author.Differences.{ints}
-use Rattle.std.proofs.shelf.Lists.{getD-set-same, getD-set-other, length-set, getD-replicate, length-replicate}
-use Rattle.std.proofs.shelf.Tests.{cases-eq, cases-lt, eq-eqb, ne-eqb, lt-ltb, le-ltb}
+use Rattle.std.proofs.shelf.Lists.{getD-set-same, getD-set-other, length-set}
+use Rattle.std.proofs.shelf.Tests.{cases-eq, eq-eqb, ne-eqb}
 use Rattle.units.specs.Sums.{total, when}
 use Rattle.transfers.specs.Sums.{added, Eight}
 use Rattle.units.proofs.Totals.{total-more, total-bound}

@@ -1,32 +1,28 @@
 -- How large the figures of an interval can be, where the register's references hold.
-use mathlib.Core.Path.{_≡_, refl, sym, ap, _∙_}
 use mathlib.Core.Bool.{Bool, true, false, cond}
 use mathlib.Core.List.{List}
 use mathlib.Core.Logic.{⊎-elim}
-use Prim.Native.Nat.{ℕ, _+_, _*_, _-_, _≤_, _<_}
+use Prim.Native.Nat.{ℕ, _*_, _-_, _≤_}
 use native.Mathlib.Nat.{mul-le-mul}
 use native.Mathlib.Omega.{arith}
 use lib.Dec.{eqb}
-use lib.ListN.{length, getD, take}
-use lib.IntN.{ℤ, pos, negsuc, natAbs, _+ℤ_, _-ℤ_, _*ℤ_}
-use lib.Signed.{_≤ℤ_, ltZ}
+use lib.ListN.{getD, take}
+use lib.IntN.{ℤ, pos, natAbs, _*ℤ_}
+use lib.Signed.{ltZ}
 use borrow.Author.Differences.{ints}
 use Rattle.std.proofs.shelf.Lists.{getD-take, getD-past, length-take}
 use Rattle.std.proofs.shelf.Tests.{cases-lt}
-use Rattle.units.specs.Sums.{total, when}
-use Rattle.units.proofs.Ring.{natAbs-*ℤ, natAbs--ℤ}
-use Rattle.units.proofs.Totals.{when-size, total-bound}
+use Rattle.units.proofs.Ring.{natAbs-*ℤ}
+use Rattle.units.proofs.Totals.{when-size}
 use Rattle.register.specs.Contents.{Network}
-use Rattle.grid.specs.References.{Holds, corridor-at, link-at}
-use Rattle.grid.specs.Views.{of-grid}
+use Rattle.grid.specs.References.{Holds, link-at}
 use Rattle.grid.specs.declared.checked.Checked.{Checked}
-use Rattle.grid.proofs.Places.{grid-holds, link-part}
+use Rattle.grid.proofs.Places.{link-part}
 use Rattle.losses.specs.Books.{Losses, Bounded}
 use Rattle.interval.specs.Figures.{Figures, price, flow, sent-at, taken-at}
 use Rattle.interval.specs.Views.{of-interval}
 use Rattle.interval.specs.declared.interval.Interval.{Interval}
 use Rattle.transfers.specs.Links.{exporting-part, entry, exit, importer, exporter, link-residue, link-export}
-use Rattle.transfers.specs.Ends.{exporting}
 
 pub record Ranged (fig : Figures) (loss : Losses) : Type 0 where
   pub prices : (r : ℕ) → natAbs (price fig r) ≤ 2000000

@@ -1,13 +1,10 @@
 -- What enters the links and does not leave them is lost, and all net exports together are what is lost.
 use mathlib.Core.Path.{_≡_, sym, ap₂, _∙_}
-use mathlib.Core.Bool.{cond}
 use Prim.Native.Nat.{ℕ, _*_, _≤_, _<_}
-use native.Mathlib.Omega.{arith}
 use lib.ListN.{length}
 use lib.Dec.{eqb}
 use lib.IntN.{ℤ, pos, natAbs, _-ℤ_, _*ℤ_}
 use lib.Signed.{_≤ℤ_}
-use borrow.Author.Differences.{ints}
 use Rattle.units.specs.Sums.{total, when}
 use Rattle.units.proofs.Ring.{*ℤ-distrib-right-sub, *ℤ-one-right}
 use Rattle.units.proofs.Totals.{when-scale, total-ext, total-sub, total-scale, total-swap, total-pick}

@@ -1,13 +1,12 @@
 -- A step of the loops over links that keep eight sums.
-use mathlib.Core.Path.{_≡_, refl, sym, ap, ap₂, _∙_}
+use mathlib.Core.Path.{_≡_, sym, ap, ap₂, _∙_}
 use mathlib.Core.Bool.{Bool, true, false, cond}
 use mathlib.Core.List.{List}
 use Prim.Native.Nat.{ℕ, _+_, _*_, _^_, _≤_, _<_}
-use native.Mathlib.Nat.{mul-le-mul-right}
 use native.Mathlib.Omega.{arith}
 use lib.Dec.{eqb}
-use lib.ListN.{length, getD}
-use lib.IntN.{ℤ, pos, negℤ, natAbs, _+ℤ_, _-ℤ_, _*ℤ_, *ℤ-comm}
+use lib.ListN.{getD}
+use lib.IntN.{ℤ, pos, negℤ, natAbs, _-ℤ_, _*ℤ_, *ℤ-comm}
 use lib.Signed.{ltZ}
 use borrow.Author.Differences.{ints}
 use mir.Syntax.{w32, w64}
@@ -30,7 +29,7 @@ use Rattle.grid.specs.Checks.{of-checked}
 use Rattle.transfers.specs.Held.{fig-of}
 use Rattle.transfers.specs.Carries.{Carries}
 use Rattle.transfers.specs.declared.links.Carried.{Carried}
-use Rattle.transfers.proofs.Bounds.{Ranged, ranged, entry-size, exit-size, link-export-size}
+use Rattle.transfers.proofs.Bounds.{ranged, entry-size, exit-size, link-export-size}
 
 module _ (net : Network) (fig : Figures) (loss : Losses) (h : Holds net) (l : ℕ) where
   pub exporter-low : exporter net fig loss l < 8
