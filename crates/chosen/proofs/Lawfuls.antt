@@ -2,7 +2,6 @@
 use native.Mathlib.Omega.{arith}
 use Prim.Native.Nat.{_≤_}
 use Rattle.std.specs.NonZero.{of-u32}
-use Rattle.units.specs.Sums.{sum}
 use Rattle.units.proofs.Totals.{sum-const}
 use Rattle.sharing.specs.Rules.{Lawful}
 use Rattle.sharing.specs.Fillings.{weight-at}

@@ -2,3 +2,8 @@ pub mod Order
 pub mod Filled
 pub mod Metering
 pub mod Whole
+pub mod Parts
+pub mod Pieces
+pub mod Accepted
+pub mod Says
+pub mod Spelled

@@ -1,21 +1,21 @@
 -- The readings of the words so far, and one word more.
-use mathlib.Core.Path.{_≡_, refl, sym, ap, subst, _∙_}
-use mathlib.Core.Bool.{Bool, true, false, cond, _&&_, _||_}
-use mathlib.Core.List.{List, [], _∷_}
-use mathlib.Core.Logic.{_⊎_, inl, inr, ⊎-elim, _≢_}
-use Prim.Native.Nat.{ℕ, zero, suc, _+_, _-_, _≤_, _<_}
+use mathlib.Core.Path.{_≡_, refl, sym, subst, _∙_}
+use mathlib.Core.Bool.{true, false, cond, _&&_, _||_}
+use mathlib.Core.List.{List}
+use mathlib.Core.Logic.{_⊎_, inl, inr, ⊎-elim}
+use Prim.Native.Nat.{ℕ, zero, suc, _+_, _≤_, _<_}
 use native.Mathlib.Numerals.{add-one}
 use native.Mathlib.Omega.{arith}
 use lib.Dec.{leb, ltb, eqb}
-use lib.ListN.{length, getD, set, take, replicate}
-use Rattle.std.specs.declared.option.Option.the-variants.{Some, None}
-use Rattle.std.proofs.shelf.Lists.{length-set, length-replicate, getD-set-same, getD-set-other, getD-take}
-use Rattle.std.proofs.shelf.Ways.{tells}
-use Rattle.std.proofs.shelf.Tests.{cases-eq, cases-bool, eq-eqb, ne-eqb, le-leb, lt-leb, and-from, and-left, and-right, cond-true, cond-false}
+use lib.ListN.{length, getD, set, replicate}
+use Rattle.std.specs.declared.option.Option.the-variants.{None}
+use Rattle.std.proofs.shelf.Lists.{length-set, length-replicate, getD-set-same, getD-set-other}
+use Rattle.std.proofs.shelf.Tests.{cases-eq, eq-eqb, ne-eqb, le-leb, lt-leb, and-from, and-left, and-right, and-parts, or-cases, cond-true, cond-false, eqb-true, ltb-true, leb-true}
 use Rattle.register.specs.Contents.{Network}
-use Rattle.interval.specs.Ranges.{Upto}
-use Rattle.interval.specs.Words.{word, kind, point, energy, rank, reads, reading-of, reading, late, present, readings-from}
+use Rattle.interval.specs.Ranges.{highest-energy}
+use Rattle.interval.specs.Words.{word, kind, sent-kind, taken-kind, closing-kind, point, energy, rank, reads, reading-of, reading, late, present, readings-from}
 use Rattle.interval.specs.Steps.{Read-readings}
+use Rattle.interval.proofs.Order.{required}
 use Rattle.interval.proofs.Filled.{upto-set, blank}
 
 module _ (net : Network) (ws : List ℕ) where
@@ -54,23 +54,27 @@ module _ (net : Network) (ws : List ℕ) where
 
 -- what a word that passes after the figures, and does not close, is
 pub record Is-reading (points least w : ℕ) : Type 0 where
-  pub of-kind : (eqb (kind w) 4 ≡ true) ⊎ ((eqb (kind w) 4 ≡ false) × (eqb (kind w) 5 ≡ true))
+  pub of-kind : (kind w ≡ sent-kind) ⊎ (kind w ≡ taken-kind)
   pub at-point : point w < points
-  pub in-range : energy w ≤ 200000
+  pub in-range : energy w ≤ highest-energy
   pub rising : least ≤ rank w
 
-is-reading : (points least j w : ℕ) → reading points least j w ≡ None → Is-reading points least w
-is-reading points least j w h = record {
-  of-kind = grind (arith, tells);
-  at-point = grind (arith, tells);
-  in-range = grind (arith, tells);
-  rising = grind (arith, tells);
-}
-
 -- a word that is not refused after the figures, and does not close
-pub reading-passed : (ws : List ℕ) (points least j : ℕ) → j < length ws → present ws j (late points least j (word ws j)) ≡ None
-    → eqb (kind (word ws j)) 6 ≡ false → Is-reading points least (word ws j)
-reading-passed ws points least j lt h t = is-reading points least j (word ws j) (grind (arith, tells))
+pub reading-passed : (ws : List ℕ) (points least j : ℕ) → present ws j (late points least j (word ws j)) ≡ None
+    → eqb (kind (word ws j)) closing-kind ≡ false → Is-reading points least (word ws j)
+reading-passed ws points least j h t =
+    let w = word ws j in
+    let here = required (ltb j (length ws)) _ _ h in
+    let unclosed = sym (cond-false (eqb (kind w) closing-kind) _ _ t) ∙ here .1 in
+    let kinds = required (eqb (kind w) sent-kind || eqb (kind w) taken-kind) _ _ unclosed in
+    let rises = required (leb least (rank w)) _ _ (kinds .1) in
+    let fits = and-parts _ _ (required (ltb (point w) points && leb (energy w) highest-energy) _ _ (rises .1) .0) in
+    record {
+      of-kind = ⊎-elim (λ e. inl (eqb-true (kind w) sent-kind e)) (λ e. inr (eqb-true (kind w) taken-kind e)) (or-cases (eqb (kind w) sent-kind) (eqb (kind w) taken-kind) (kinds .0));
+      at-point = ltb-true (point w) points (fits .0);
+      in-range = leb-true (energy w) highest-energy (fits .1);
+      rising = leb-true least (rank w) (rises .0);
+    }
 
 module _ (net : Network) (ws : List ℕ) where
   pub readings-start : Read-readings net ws (readings-from net) (replicate 128 0) (replicate 128 0)
@@ -79,55 +83,51 @@ module _ (net : Network) (ws : List ℕ) where
     taken-room = length-replicate {A = ℕ} 128 0;
     sent-ranged = λ k. omega (arith, blank {A = ℕ} 0 128 k);
     taken-ranged = λ k. omega (arith, blank {A = ℕ} 0 128 k);
-    sent-said = λ p. blank {A = ℕ} 0 128 p ∙ sym (readings-none net ws (readings-from net) 4 p (omega arith));
-    taken-said = λ p. blank {A = ℕ} 0 128 p ∙ sym (readings-none net ws (readings-from net) 5 p (omega arith));
+    sent-said = λ p. blank {A = ℕ} 0 128 p ∙ sym (readings-none net ws (readings-from net) sent-kind p (omega arith));
+    taken-said = λ p. blank {A = ℕ} 0 128 p ∙ sym (readings-none net ws (readings-from net) taken-kind p (omega arith));
   }
 
   module _ (j : ℕ) (sent taken : List ℕ) (h : Read-readings net ws j sent taken) where
     -- a word of kind 6
-    pub readings-end : eqb (kind (word ws j)) 6 ≡ true → Read-readings net ws (j + 1) sent taken
-    readings-end t = record {
-      sent-room = h .sent-room;
-      taken-room = h .taken-room;
-      sent-ranged = h .sent-ranged;
-      taken-ranged = h .taken-ranged;
-      sent-said = other net ws j 4 sent (h .sent-said) (grind (arith, tells));
-      taken-said = other net ws j 5 taken (h .taken-said) (grind (arith, tells));
-    }
-
-    sent-more : (points least : ℕ) → points ≤ 128 → readings-from net ≤ j → Is-reading points least (word ws j) → eqb (kind (word ws j)) 4 ≡ true
-        → Read-readings net ws (j + 1) (set sent (point (word ws j)) (energy (word ws j))) taken
-    sent-more points least few from r t =
-        let lt : point (word ws j) < length sent = omega (arith, h .sent-room, r .at-point) in
-        record {
-          sent-room = length-set sent _ _ ∙ h .sent-room;
-          taken-room = h .taken-room;
-          sent-ranged = upto-set 200000 sent (point (word ws j)) (energy (word ws j)) (r .in-range) (h .sent-ranged);
-          taken-ranged = h .taken-ranged;
-          sent-said = same net ws j 4 sent (h .sent-said) t from lt;
-          taken-said = other net ws j 5 taken (h .taken-said) (grind (arith, tells));
-        }
-
-    taken-more : (points least : ℕ) → points ≤ 128 → readings-from net ≤ j → Is-reading points least (word ws j) → eqb (kind (word ws j)) 4 ≡ false → eqb (kind (word ws j)) 5 ≡ true
-        → Read-readings net ws (j + 1) sent (set taken (point (word ws j)) (energy (word ws j)))
-    taken-more points least few from r f t =
-        let lt : point (word ws j) < length taken = omega (arith, h .taken-room, r .at-point) in
+    pub readings-end : eqb (kind (word ws j)) closing-kind ≡ true → Read-readings net ws (j + 1) sent taken
+    readings-end t =
+        let six = eqb-true (kind (word ws j)) closing-kind t in
         record {
           sent-room = h .sent-room;
-          taken-room = length-set taken _ _ ∙ h .taken-room;
+          taken-room = h .taken-room;
           sent-ranged = h .sent-ranged;
-          taken-ranged = upto-set 200000 taken (point (word ws j)) (energy (word ws j)) (r .in-range) (h .taken-ranged);
-          sent-said = other net ws j 4 sent (h .sent-said) f;
-          taken-said = same net ws j 5 taken (h .taken-said) t from lt;
+          taken-ranged = h .taken-ranged;
+          sent-said = other net ws j sent-kind sent (h .sent-said) (ne-eqb (kind (word ws j)) sent-kind (λ e. omega arith));
+          taken-said = other net ws j taken-kind taken (h .taken-said) (ne-eqb (kind (word ws j)) taken-kind (λ e. omega arith));
         }
 
-    -- a reading, stored by its kind
-    pub readings-more : (points least : ℕ) → points ≤ 128 → readings-from net ≤ j → Is-reading points least (word ws j)
-        → Read-readings net ws (j + 1)
-        (cond (eqb (kind (word ws j)) 4) (set sent (point (word ws j)) (energy (word ws j))) sent)
-        (cond (eqb (kind (word ws j)) 4) taken (set taken (point (word ws j)) (energy (word ws j))))
-    readings-more points least few from r =
-        ⊎-elim
-        (λ (t : eqb (kind (word ws j)) 4 ≡ true). rw t (sent-more points least few from r t))
-        (λ (t : (eqb (kind (word ws j)) 4 ≡ false) × (eqb (kind (word ws j)) 5 ≡ true)). rw (t .0) (taken-more points least few from r (t .0) (t .1)))
-        (r .of-kind)
+    module _ (points least : ℕ) (few : points ≤ 128) (from : readings-from net ≤ j) (r : Is-reading points least (word ws j)) where
+      sent-more : kind (word ws j) ≡ sent-kind → Read-readings net ws (j + 1) (set sent (point (word ws j)) (energy (word ws j))) taken
+      sent-more k = record {
+        sent-room = length-set sent _ _ ∙ h .sent-room;
+        taken-room = h .taken-room;
+        sent-ranged = upto-set highest-energy sent (point (word ws j)) (energy (word ws j)) (r .in-range) (h .sent-ranged);
+        taken-ranged = h .taken-ranged;
+        sent-said = same net ws j sent-kind sent (h .sent-said) (eq-eqb (kind (word ws j)) sent-kind k) from (omega (arith, h .sent-room, r .at-point));
+        taken-said = other net ws j taken-kind taken (h .taken-said) (ne-eqb (kind (word ws j)) taken-kind (λ e. omega arith));
+      }
+
+      taken-more : kind (word ws j) ≡ taken-kind → Read-readings net ws (j + 1) sent (set taken (point (word ws j)) (energy (word ws j)))
+      taken-more k = record {
+        sent-room = h .sent-room;
+        taken-room = length-set taken _ _ ∙ h .taken-room;
+        sent-ranged = h .sent-ranged;
+        taken-ranged = upto-set highest-energy taken (point (word ws j)) (energy (word ws j)) (r .in-range) (h .taken-ranged);
+        sent-said = other net ws j sent-kind sent (h .sent-said) (ne-eqb (kind (word ws j)) sent-kind (λ e. omega arith));
+        taken-said = same net ws j taken-kind taken (h .taken-said) (eq-eqb (kind (word ws j)) taken-kind k) from (omega (arith, h .taken-room, r .at-point));
+      }
+
+      -- a reading, stored by its kind
+      pub readings-more : Read-readings net ws (j + 1)
+          (cond (eqb (kind (word ws j)) sent-kind) (set sent (point (word ws j)) (energy (word ws j))) sent)
+          (cond (eqb (kind (word ws j)) sent-kind) taken (set taken (point (word ws j)) (energy (word ws j))))
+      readings-more =
+          ⊎-elim
+          (λ (k : kind (word ws j) ≡ sent-kind). let t = eq-eqb (kind (word ws j)) sent-kind k in rw t (sent-more k))
+          (λ (k : kind (word ws j) ≡ taken-kind). let t = ne-eqb (kind (word ws j)) sent-kind (λ e. omega arith) in rw t (taken-more k))
+          (r .of-kind)

@@ -1,21 +1,25 @@
 -- The refusal of a word in each part of an interval, and one word more.
-use mathlib.Core.Path.{_≡_, refl, sym, ap, subst, _∙_}
-use mathlib.Core.Bool.{Bool, true, false, cond}
+use mathlib.Core.Path.{_≡_, refl, sym, ap, _∙_}
+use mathlib.Core.Bool.{Bool, true, false}
 use mathlib.Core.List.{List}
 use Prim.Native.Nat.{ℕ, suc, _+_, _-_, _≤_, _<_}
 use native.Mathlib.Numerals.{add-one}
 use native.Mathlib.Omega.{arith}
-use lib.ListN.{length, getD}
+use lib.ListN.{length}
 use lib.Dec.{leb, ltb, eqb}
 use Rattle.std.specs.declared.option.Option.{Option}
 use Rattle.std.specs.declared.option.Option.the-variants.{Some, None}
-use Rattle.std.proofs.shelf.Tests.{ne-eqb, eq-eqb, le-leb, lt-leb, lt-ltb, le-ltb, cond-true, cond-false, and-left}
-use Rattle.units.specs.declared.refusal.Layer.the-variants.{Words}
-use Rattle.units.specs.Refusals.{Refused, refused, Answer, done, turned-down}
+use Rattle.std.proofs.shelf.Tests.{ne-eqb, le-leb, lt-leb, lt-ltb, le-ltb, cond-true, cond-false, and-left}
+use Rattle.units.specs.Refusals.{Refused, done, turned-down}
 use Rattle.register.specs.Contents.{Network}
 use Rattle.interval.specs.Ranges.{lowest-price, highest-price, lowest-flow, highest-flow}
-use Rattle.interval.specs.Words.{fault, closes, read, read-on, word, present, from-to, opening, figure, late, kind, price-kind, flow-kind, closing-kind, rank, readings-from, least-rank}
+use Rattle.interval.specs.Words.{fault, closes, read, read-on, word, require, present, from-to, opening, figure, late, kind, price-kind, flow-kind, closing-kind, rank, readings-from, least-rank}
 use Rattle.interval.specs.Steps.{Reached}
+
+-- a test that did not refuse
+pub required : (b : Bool) (r : Refused) (rest : Option Refused) → require b r rest ≡ None → (b ≡ true) × (rest ≡ None)
+required true r rest e = (refl, e)
+required false r rest e = let z : _≡_ {A = ℕ} 0 1 = cc in absurd (omega arith)
 
 module _ (net : Network) (ws : List ℕ) where
   pub fault-first : fault net ws 0 ≡ present ws 0 (opening 0 (word ws 0))

@@ -2,6 +2,6 @@ pub mod Ranges
 pub mod Figures
 pub mod Words
 pub mod Spelling
-pub mod Laws
 pub mod Views
+pub mod Laws
 pub mod Steps

@@ -3,13 +3,13 @@ use mathlib.Core.Path.{_≡_}
 use mathlib.Core.Bool.{cond}
 use mathlib.Core.List.{List, [], _∷_, _++_, map}
 use mathlib.Core.Logic.{_⊎_}
-use Prim.Native.Nat.{ℕ, suc, _+_, _*_, _-_, _/_, _%_, _^_, _<_}
-use lib.ListN.{length, getD}
+use Prim.Native.Nat.{ℕ, suc, _+_, _*_, _-_, _/_, _%_, _^_, _<_, _≤_}
+use lib.ListN.{length, getD, take}
 use lib.Dec.{eqb}
 use lib.IntN.{ℤ, pos, negsuc}
 use Rattle.units.specs.Sums.{tabulate}
 use Rattle.register.specs.Contents.{Network}
-use Rattle.interval.specs.Ranges.{lowest-price, highest-price, lowest-flow, highest-flow, highest-energy, Between, Upto}
+use Rattle.interval.specs.Ranges.{number-limit, lowest-price, highest-price, lowest-flow, highest-flow, highest-energy, Between, Upto}
 use Rattle.interval.specs.Figures.{Figures, price, flow, sent-at, taken-at}
 use Rattle.interval.specs.Words.{opening-kind, price-kind, flow-kind, sent-kind, closing-kind}
 
@@ -22,7 +22,7 @@ abbrev pub in-24-bits : ℤ → ℕ
 in-24-bits (pos n) = n
 in-24-bits (negsuc n) = 2 ^ 24 - suc n
 
--- the price of region i or the flow of link i
+-- the word of kind k for region or link i, with its price or flow z
 abbrev pub figure-word : ℕ → ℕ → ℤ → ℕ
 figure-word k i z = of-kind k (i * 2 ^ 24 + in-24-bits z)
 
@@ -34,7 +34,7 @@ metered figs m = cond (eqb (m % 2) 0) (sent-at figs (m / 2)) (taken-at figs (m /
 abbrev pub reading-word : Figures → ℕ → ℕ
 reading-word figs m = of-kind (sent-kind + m % 2) (m / 2 * 2 ^ 20 + metered figs m)
 
--- the words before the closing one, where these meters are read
+-- the words of the figures where these meters are read: all but the closing one, and all
 abbrev pub words-before : Figures → List ℕ → List ℕ
 words-before figs meters =
     of-kind opening-kind (figs .number)
@@ -55,7 +55,7 @@ pub record Covers (figs : Figures) (meters : List ℕ) : Type 0 where
 
 -- the figures are of the network's regions, links and points, and in range
 pub record In-range (net : Network) (figs : Figures) : Type 0 where
-  pub number : figs .number < 2 ^ 28
+  pub number : figs .number < number-limit
   pub regions : length (figs .prices) ≡ net .regions
   pub links : length (figs .flows) ≡ length (net .links)
   pub senders : length (figs .sent) ≡ length (net .points)
@@ -65,6 +65,10 @@ pub record In-range (net : Network) (figs : Figures) : Type 0 where
   pub sent-range : Upto highest-energy (figs .sent)
   pub taken-range : Upto highest-energy (figs .taken)
 
--- ws are the words of these figures, with or without readings of 0
+-- ws are the words of these figures; a reading of 0 may stand there or be left out
 abbrev pub Spells : Network → List ℕ → Figures → Type 0
 Spells net ws figs = In-range net figs × ((meters : List ℕ) × Covers figs meters × (ws ≡ words-of figs meters))
+
+-- no words at the front of ws are those of figures in range
+abbrev pub Unspelled : Network → List ℕ → Type 0
+Unspelled net ws = (n : ℕ) (figs : Figures) → n ≤ length ws → Spells net (take n ws) figs → ⊥

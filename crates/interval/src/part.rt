@@ -1,6 +1,19 @@
 ghost use mathlib.Core.Path.{_≡_};
 ghost use Rattle.interval.specs.Words.{kind, count, ordinal, signed, point, energy, rank};
 
+// The kinds of words.
+pub(crate) const OPENING: u32 = 1;
+
+pub(crate) const PRICE: u32 = 2;
+
+pub(crate) const FLOW: u32 = 3;
+
+pub(crate) const SENT: u32 = 4;
+
+pub(crate) const TAKEN: u32 = 5;
+
+pub(crate) const CLOSING: u32 = 6;
+
 // The parts of a word.
 pub(crate) fn kind_of(w: u32) -> u32
     ensures { λ r. ⌜ r ≡ kind w ⌝ }

@@ -1,12 +1,12 @@
-ghost use Prim.Native.Nat.{_+_, _<_, _≤_};
-ghost use lib.Dec.{eqb};
-ghost use lib.ListN.{length, set};
-ghost use mathlib.Core.Bool.{cond};
 ghost use mathlib.Core.Path.{_≡_};
-ghost use Rattle.interval.specs.Steps.{Reached, Reads-on, Read-readings};
-ghost use Rattle.interval.specs.Words.{energy, kind, point, readings-from, read as page-read};
+ghost use mathlib.Core.Bool.{cond};
+ghost use Prim.Native.Nat.{_<_};
+ghost use lib.Dec.{eqb};
+ghost use lib.ListN.{set};
 ghost use Rattle.grid.specs.Views.{of-grid};
-ghost use Rattle.units.specs.Refusals.{done};
+ghost use Rattle.interval.specs.Words.{energy, kind, point, readings-from, sent-kind};
+ghost use Rattle.interval.specs.Steps.{Reached, Reads-on, Read-whole};
+use crate::part::SENT;
 use crate::part::energy_of;
 use crate::part::kind_of;
 use crate::part::point_of;
@@ -26,12 +26,12 @@ pub(crate) struct Readings {
 // Stores the reading `w`, which is of kind 4 or 5.
 fn store(readings: &mut Readings, w: u32)
     requires { ⌜ point w < 128 ⌝ }
-    ensures sent { λ _. ⌜ now (readings .exit) .sent ≡ cond (eqb (kind w) 4) (set (now (readings .entry) .sent) (point w) (energy w)) (now (readings .entry) .sent) ⌝ }
-    ensures taken { λ _. ⌜ now (readings .exit) .taken ≡ cond (eqb (kind w) 4) (now (readings .entry) .taken) (set (now (readings .entry) .taken) (point w) (energy w)) ⌝ }
+    ensures sent { λ _. ⌜ now (readings .exit) .sent ≡ cond (eqb (kind w) sent-kind) (set (now (readings .entry) .sent) (point w) (energy w)) (now (readings .entry) .sent) ⌝ }
+    ensures taken { λ _. ⌜ now (readings .exit) .taken ≡ cond (eqb (kind w) sent-kind) (now (readings .entry) .taken) (set (now (readings .entry) .taken) (point w) (energy w)) ⌝ }
     ensures used { λ _. ⌜ now (readings .exit) .used ≡ now (readings .entry) .used ⌝ }
 {
     let p = point_of(w) as usize;
-    if kind_of(w) == 4 {
+    if kind_of(w) == SENT {
         readings.sent[p] = energy_of(w);
     } else {
         readings.taken[p] = energy_of(w);
@@ -42,8 +42,7 @@ fn store(readings: &mut Readings, w: u32)
 pub(crate) fn read_readings(grid: &Grid, ws: &[u32]) -> Result<Readings, Refusal>
     requires { ⌜ Reached (of-grid (now grid)) (now ws) (readings-from (of-grid (now grid))) ⌝ }
     ensures { λ r. ⌜ Reads-on r (of-grid (now (grid .entry))) (now (ws .entry))
-        (λ t. (page-read (of-grid (now (grid .entry))) (now (ws .entry)) ≡ done (t .used)) × (t .used ≤ length (now (ws .entry))) × (readings-from (of-grid (now (grid .entry))) < t .used)
-        × Read-readings (of-grid (now (grid .entry))) (now (ws .entry)) (t .used) (t .sent) (t .taken)) ⌝ }
+        (λ t. Read-whole (of-grid (now (grid .entry))) (now (ws .entry)) (t .used) (t .sent) (t .taken)) ⌝ }
 {
     let mut readings = Readings {
         sent: [0; 128],

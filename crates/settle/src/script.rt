@@ -347,3 +347,39 @@ fn read_rule(heap: Global, words: &[&str]) -> Result<Command, Fault> {
         numbers,
     }))
 }
+
+#[cfg(test)]
+mod tests {
+    use super::Fault;
+    use super::FaultDebug;
+    use super::FaultPartialEq;
+    use super::parse;
+    use std::alloc::Global;
+    use std::test::*;
+
+    // The fault of a line, or none.
+    fn fault(heap: Global, line: &str) -> Option<Fault> {
+        match parse(heap, line) {
+            Ok(_) => None,
+            Err(fault) => Some(fault),
+        }
+    }
+
+    #[test]
+    fn lines_that_are_no_command(rt: LibcRuntime) -> Result<(), Fail> {
+        let heap = rt.alloc();
+        check_eq(fault(heap, "  # region"), None)?;
+        check_eq(fault(heap, "region 4294967295"), None)?;
+        check_eq(fault(heap, "region 4294967296"), Some(Fault::BadNumber))?;
+        check_eq(fault(heap, "read 0x1FFFFFFFF"), Some(Fault::BadNumber))?;
+        check_eq(fault(heap, "corridor -1 x"), Some(Fault::BadNumber))?;
+        check_eq(fault(heap, "corridor 0"), Some(Fault::WordCount))?;
+        check_eq(fault(heap, "check 1"), Some(Fault::WordCount))?;
+        check_eq(fault(heap, "flows 1 2"), Some(Fault::WordCount))?;
+        check_eq(
+            fault(heap, "book split 1 all none"),
+            Some(Fault::UnknownCommand),
+        )?;
+        check_eq(fault(heap, "Region 1"), Some(Fault::UnknownCommand))
+    }
+}

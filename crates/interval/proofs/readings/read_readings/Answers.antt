@@ -1,14 +1,13 @@
 use mathlib.Core.Path.{_≡_, _∙_, sym, ap}
 use mathlib.Core.Bool.{true, false}
-use Prim.Native.Nat.{_+_, _<_, _≤_}
+use Prim.Native.Nat.{_+_}
 use native.Mathlib.Omega.{arith}
 use lib.Dec.{eqb}
-use lib.ListN.{length}
 use Rattle.std.proofs.shelf.Results.{err-from-errBy}
 use Rattle.grid.specs.Views.{of-grid}
 use Rattle.grid.proofs.Counts.{links-count, points-count}
 use Rattle.std.specs.declared.option.Option.the-variants.{None}
-use Rattle.interval.specs.Words.{fault, readings-from, kind, word}
+use Rattle.interval.specs.Words.{fault, readings-from, closing-kind, kind, word}
 use Rattle.interval.proofs.Order.{fault-after, closes-after, least-none, least-more, stopped, ended, reached-more}
 use Rattle.interval.proofs.Metering.{readings-start, readings-more, readings-end, reading-passed}
 use Rattle.interval.proofs.readings.read_readings.Needs as need
@@ -40,9 +39,15 @@ returns-then-branch c =
     let j = c .loop-readings .j in
     let inv = c .loop-readings .inv in
     let h = c .in-Continue-closes-at .ensures tt in
-    let six : eqb (kind (word ws j)) 6 ≡ true = sym (h .1 .1) ∙ c .if-branch .taken in
+    let here = h .1 .1 in
+    let six : eqb (kind (word ws j)) closing-kind ≡ true = cc in
     let none : fault net ws j ≡ None = fault-after net ws j (grid .«point_count») (c .loop-readings .least) (inv .1) (points-count grid) (inv .2) ∙ h .0 in
-    (ended net ws j (inv .0) none (closes-after net ws j (inv .1) ∙ six), omega (arith, h .1 .0), omega (arith, inv .1), readings-end net ws j _ _ (inv .3) six)
+    record {
+      answered = ended net ws j (inv .0) none (closes-after net ws j (inv .1) ∙ six);
+      inside = omega (arith, h .1 .0);
+      past = omega (arith, inv .1);
+      readings = readings-end net ws j _ _ (inv .3) six;
+    }
 
 pub loop-readings-again : need.loop-readings-again
 loop-readings-again c =
@@ -52,9 +57,10 @@ loop-readings-again c =
     let j = c .loop-readings .j in
     let inv = c .loop-readings .inv in
     let h = c .in-Continue-closes-at .ensures tt in
-    let six : eqb (kind (word ws j)) 6 ≡ false = sym (h .1 .1) ∙ c .if-branch .left in
+    let here = h .1 .1 in
+    let six : eqb (kind (word ws j)) closing-kind ≡ false = cc in
     let none : fault net ws j ≡ None = fault-after net ws j (grid .«point_count») (c .loop-readings .least) (inv .1) (points-count grid) (inv .2) ∙ h .0 in
-    let is = reading-passed ws (grid .«point_count») (c .loop-readings .least) j (h .1 .0) (h .0) six in
+    let is = reading-passed ws (grid .«point_count») (c .loop-readings .least) j (h .0) six in
     let more = readings-more net ws j _ _ (inv .3) (grid .«point_count») (c .loop-readings .least) (omega arith) (inv .1) is in (
       reached-more net ws j (inv .0) (h .1 .0) none (closes-after net ws j (inv .1) ∙ six),
       omega (arith, inv .1),

@@ -1,5 +1,5 @@
-use mathlib.Core.Path.{_≡_, sym, ap, ap₂, _∙_}
-use Prim.Native.Nat.{min, _≤_}
+use mathlib.Core.Path.{_≡_, ap, ap₂, _∙_}
+use Prim.Native.Nat.{min}
 use native.Mathlib.Omega.{arith}
 use lib.IntN.{natAbs, _-ℤ_}
 use borrow.Author.Differences.{ints}
