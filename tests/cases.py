@@ -226,6 +226,26 @@ def show_shares(box, amount):
 
 # ---- a script
 
+COUNTS = {kind: len(ranges) for kind, ranges in RANGES.items()} | {"check": 0, "clear": 0, "segment": 4, "share": 1}
+
+
+def fault(words):
+    """What is wrong with a line, of the commands that take numbers alone."""
+    name, rest = words[0], words[1:]
+    if name not in COUNTS and name != "read":
+        return "unknown command"
+    if name != "read" and len(rest) != COUNTS[name]:
+        return "wrong number of words"
+    for word in rest:
+        try:
+            value = int(word, 16 if word.startswith("0x") else 10)
+        except ValueError:
+            value = None
+        low, high = (-(2**63), 2**63) if name == "share" else (0, 2**32)
+        if value is None or not low <= value < high:
+            return "not a number, or one that does not fit"
+    return "a command"
+
 
 def run(script):
     box, lines = Box(), []
@@ -259,6 +279,8 @@ def run(script):
             lines.append(show_shares(box, int(rest[0])))
         elif name == "read":
             lines.append(show_read(box, [int(w, 0) for w in rest]))
+        elif name == "try":
+            lines.append("try: " + fault(rest))
         else:
             lines.append(enter(box, name, [int(w, 0) for w in rest]))
     return "\n".join(lines) + "\n"
@@ -326,6 +348,36 @@ def references(out):
     case("eleven points and six assets feed asset 1", "region 1", *chain, *["point 0 2 10000 10000"] * 11)
     case("the last point fails", "region 1", *[at0] * 127, "point 1 0 10000 10000")
     case("the last link fails", "region 1", "region 2", "corridor 0 1", *["link 0 0"] * 7, "link 1 0")
+
+
+def faults(out):
+    out("", "clear", "# lines that are no command")
+    for line in (
+        "region 4294967295",
+        "region 4294967296",
+        "region 0xFFFFFFFF",
+        "region 0x1FFFFFFFF",
+        "region -1",
+        "region",
+        "region 1 2",
+        "Region 1",
+        "corridor 0 x",
+        "corridor 0",
+        "link 1 2 3",
+        "point 0 0 1 2 3",
+        "dna 0 0 9 9",
+        "check 1",
+        "clear",
+        "segment 1 2 3",
+        "share 9223372036854775807",
+        "share 9223372036854775808",
+        "share -9223372036854775808",
+        "share 1 2",
+        "read 0 0x",
+        "read",
+        "pay 1",
+    ):
+        out("try " + line)
 
 
 def words(out):
@@ -460,6 +512,7 @@ def script():
     references(out)
     for name in ("between-regions.txt", "shares.txt", "words.txt"):
         out("", "clear", example(name))
+    faults(out)
     words(out)
     rnd = random.Random(20261118)
     between_regions(out, rnd)

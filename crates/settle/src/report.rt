@@ -36,14 +36,22 @@ pub fn flows<B: LossBook>(
 ) -> io::Result<()> {
     for link in 0..8usize {
         if let Some(c) = Carried::by(grid, metered, book, link) {
-            let loss = book.loss(link as u32, metered.flows[link]);
-            link_line(rt, link, loss, &c)?;
+            link_line(rt, link, book.loss(link as u32, metered.flows[link]), &c)?;
         }
     }
     let sums = Interchange::of(grid, metered, book);
+    corridor_lines(rt, grid, &sums)?;
+    region_lines(rt, grid, &sums)
+}
+
+fn corridor_lines(rt: &LibcRuntime, grid: &Checked, sums: &Interchange) -> io::Result<()> {
     for corridor in 0..grid.grid.corridor_count {
         corridor_line(rt, corridor, sums.residues[corridor], sums.flows[corridor])?;
     }
+    Ok(())
+}
+
+fn region_lines(rt: &LibcRuntime, grid: &Checked, sums: &Interchange) -> io::Result<()> {
     for region in 0..grid.grid.region_count {
         let mut line = String::new(rt.alloc());
         push_field(rt, &mut line, "region", region)?;
@@ -98,17 +106,26 @@ pub fn interval(rt: &LibcRuntime, grid: &Grid, metered: &Interval, used: usize) 
     let mut line = String::new(rt.alloc());
     push_field(rt, &mut line, "read words", used)?;
     push_field(rt, &mut line, " number", metered.number)?;
-    line.push_str(" prices")?;
-    for region in 0..grid.region_count {
-        push_field(rt, &mut line, "", metered.prices[region])?;
-    }
-    line.push_str(" flows")?;
-    for link in 0..grid.link_count {
-        push_field(rt, &mut line, "", metered.flows[link])?;
-    }
+    push_figures(rt, &mut line, " prices", &metered.prices, grid.region_count)?;
+    push_figures(rt, &mut line, " flows", &metered.flows, grid.link_count)?;
     push_readings(rt, &mut line, " sent", &metered.sent)?;
     push_readings(rt, &mut line, " taken", &metered.taken)?;
     rt.println(line)
+}
+
+// A name and the first `count` figures.
+fn push_figures(
+    rt: &LibcRuntime,
+    line: &mut String,
+    name: &str,
+    figures: &[i32; 8],
+    count: usize,
+) -> Result<(), AllocError> {
+    line.push_str(name)?;
+    for i in 0..count.min(8) {
+        push_field(rt, line, "", figures[i])?;
+    }
+    Ok(())
 }
 
 // Readings that are not 0, each as POINT KWH.

@@ -5,6 +5,7 @@ use crate::desk::piled;
 use crate::report;
 use crate::script::BookPlan;
 use crate::script::Command;
+use crate::script::Fault;
 use crate::script::FaultDisplay;
 use crate::script::RulePlan;
 use crate::script::parse;
@@ -72,6 +73,15 @@ fn execute(
         Command::Rule(plan) => choose_rule(rt, desk, plan),
         Command::Share(amount) => report::shares(rt, &desk.rule, amount),
         Command::Read(words) => show_read(rt, register, words.as_slice()),
+        Command::Try(fault) => show_fault(rt, fault),
+    }
+}
+
+// What is wrong with a line that was only tried.
+fn show_fault(rt: &LibcRuntime, fault: Option<Fault>) -> io::Result<()> {
+    match fault {
+        Some(fault) => println!(rt, "try: {fault}"),
+        None => rt.println("try: a command"),
     }
 }
 

@@ -58,10 +58,11 @@ pub enum Command {
     Rule(RulePlan),
     Share(i64),
     Read(Vec<u32>),
+    Try(Option<Fault>),
 }
 
 // Why a line is no command.
-#[derive(Clone, Copy, Debug, PartialEq)]
+#[derive(Clone, Copy)]
 pub enum Fault {
     UnknownCommand,
     WordCount,
@@ -131,7 +132,19 @@ pub fn parse(heap: Global, line: &str) -> Result<Command, Fault> {
     let words: Vec<&str> = text.split_whitespace().collect(heap)?;
     match words.as_slice() {
         [] => Ok(Command::Nothing),
+        ["try", rest @ ..] => Ok(Command::Try(tried(heap, rest))),
         [name, rest @ ..] => named(heap, name, rest),
+    }
+}
+
+// The fault of words that are no command, or none.
+fn tried(heap: Global, words: &[&str]) -> Option<Fault> {
+    let [name, rest @ ..] = words else {
+        return None;
+    };
+    match named(heap, name, rest) {
+        Ok(_) => None,
+        Err(fault) => Some(fault),
     }
 }
 
@@ -346,40 +359,4 @@ fn read_rule(heap: Global, words: &[&str]) -> Result<Command, Fault> {
         kind,
         numbers,
     }))
-}
-
-#[cfg(test)]
-mod tests {
-    use super::Fault;
-    use super::FaultDebug;
-    use super::FaultPartialEq;
-    use super::parse;
-    use std::alloc::Global;
-    use std::test::*;
-
-    // The fault of a line, or none.
-    fn fault(heap: Global, line: &str) -> Option<Fault> {
-        match parse(heap, line) {
-            Ok(_) => None,
-            Err(fault) => Some(fault),
-        }
-    }
-
-    #[test]
-    fn lines_that_are_no_command(rt: LibcRuntime) -> Result<(), Fail> {
-        let heap = rt.alloc();
-        check_eq(fault(heap, "  # region"), None)?;
-        check_eq(fault(heap, "region 4294967295"), None)?;
-        check_eq(fault(heap, "region 4294967296"), Some(Fault::BadNumber))?;
-        check_eq(fault(heap, "read 0x1FFFFFFFF"), Some(Fault::BadNumber))?;
-        check_eq(fault(heap, "corridor -1 x"), Some(Fault::BadNumber))?;
-        check_eq(fault(heap, "corridor 0"), Some(Fault::WordCount))?;
-        check_eq(fault(heap, "check 1"), Some(Fault::WordCount))?;
-        check_eq(fault(heap, "flows 1 2"), Some(Fault::WordCount))?;
-        check_eq(
-            fault(heap, "book split 1 all none"),
-            Some(Fault::UnknownCommand),
-        )?;
-        check_eq(fault(heap, "Region 1"), Some(Fault::UnknownCommand))
-    }
 }

@@ -29,25 +29,29 @@ module _ (net : Network) (fig : Figures) (loss : Losses) where
   abbrev pub forward : ℕ → Bool
   forward l = ltZ (pos 0) (flow fig l)
 
+  -- the region where energy enters the link, and the one where it leaves
   abbrev pub exporter : ℕ → ℕ
   exporter l = let c = corridor-at net (link-at net l .corridor) in cond (forward l) (c .region1) (c .region2)
 
   abbrev pub importer : ℕ → ℕ
   importer l = let c = corridor-at net (link-at net l .corridor) in cond (forward l) (c .region2) (c .region1)
 
+  -- the ten-thousandths of the loss that the exporter bears
   abbrev pub exporting-part : ℕ → ℕ
   exporting-part l = exporting (flow fig l) (link-at net l .part1)
 
+  -- what the book means at the metered flow, in kWh
   abbrev pub lost : ℕ → ℕ
   lost l = loss l (flow fig l)
 
+  -- what enters the link and what leaves it, in node units
   abbrev pub entry : ℕ → ℤ
   entry l = entering (exporting-part l) (natAbs (flow fig l)) (lost l)
 
   abbrev pub exit : ℕ → ℤ
   exit l = leaving (exporting-part l) (natAbs (flow fig l)) (lost l)
 
-  -- in grains
+  -- what leaves at the importer's price, less what enters at the exporter's, in grains
   abbrev pub link-residue : ℕ → ℤ
   link-residue l = (price fig (importer l) *ℤ exit l) -ℤ (price fig (exporter l) *ℤ entry l)
 
@@ -55,9 +59,11 @@ module _ (net : Network) (fig : Figures) (loss : Losses) where
   abbrev pub link-export : ℕ → ℕ → ℤ
   link-export r l = when (eqb (exporter l) r) (entry l) -ℤ when (eqb (importer l) r) (exit l)
 
+  -- the same over all links
   abbrev pub net-export : ℕ → ℤ
   net-export r = total (length (net .links)) (link-export r)
 
+  -- one sum over the corridor's links, whatever their directions
   abbrev pub corridor-residue : ℕ → ℤ
   corridor-residue c = total (length (net .links)) (λ l. when (eqb (link-at net l .corridor) c) (link-residue l))
 
