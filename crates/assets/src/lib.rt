@@ -1,3 +1,5 @@
+#![tactic(auto)]
+
 pub mod assets;
 mod balance;
 mod feeds;

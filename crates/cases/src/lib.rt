@@ -1,3 +1,5 @@
+#![tactic(auto)]
+
 ghost use Rattle.cases.specs.Figures.{WorkedFigures};
 
 // Does nothing: its contract is that the worked figures follow from the definitions.

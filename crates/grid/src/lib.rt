@@ -1,2 +1,4 @@
+#![tactic(auto)]
+
 pub mod checked;
 pub mod grid;

@@ -1,3 +1,5 @@
+#![tactic(auto)]
+
 pub mod interval;
 pub mod law;
 mod part;

@@ -1,3 +1,5 @@
+#![tactic(auto)]
+
 // Runs a script of calls from beginning to end, and prints what each did.
 use register::entry::{Corridor, Dna, Link, Point, Region};
 use register::register::Register;

@@ -1,3 +1,5 @@
+#![tactic(auto)]
+
 mod amount;
 pub mod derogation;
 pub mod equal;

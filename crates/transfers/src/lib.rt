@@ -1,3 +1,5 @@
+#![tactic(auto)]
+
 pub mod links;
 mod sums;
 pub mod transfer;

@@ -1,3 +1,5 @@
+#![tactic(auto)]
+
 // Examples of what the crates do, as tests. A crate with tests is proved twice, so they stand in a crate of their own.
 
 #[cfg(test)]

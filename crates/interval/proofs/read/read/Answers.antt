@@ -19,51 +19,51 @@ unspelled g ws r e =
     let points = points_count g in
     refused_unspelled (of_grid g) (record { regions = omega arith; links = omega arith; points = omega arith }) ws r e
 
-pub returns-in-err-number : goal.returns-in-err-number
-returns-in-err-number c =
+pub returns-in_err-number : goal.returns-in_err-number
+returns-in_err-number c =
     let net = of_grid c.args.grid.now in
     let ws = c.args.words.now in
-    let h = c.in-err-number.ensures in
+    let h = c.in_err-number.ensures in
     let p = err_from_is_err_and c.from-residual.result c.from-residual.ensures.1 in
     let e = stopped net ws 0 _ (reached_none net ws) (fault_first net ws ∙ h) in
     rw (p.1, p.2) (record { answers = cc; says = tt; spelled = unspelled c.args.grid.now ws _ e })
 
 pub read-prices-requires : goal.read-prices-requires
 read-prices-requires c =
-    let h = c.in-ok-number.ensures in
+    let h = c.in_ok-number.ensures in
     reached_first (of_grid c.args.grid.now) c.args.words.now h.1.0 h.0
 
 pub read-readings-requires : goal.read-readings-requires
-read-readings-requires c = let e = links_count c.args.grid.now in rw e c.in-ok-flows.ensures.reached
+read-readings-requires c = let e = links_count c.args.grid.now in rw e c.in_ok-flows.ensures.reached
 
-pub returns-in-err-prices : goal.returns-in-err-prices
-returns-in-err-prices c =
-    let e = c.in-err-prices.ensures in
-    let p = err_from_is_err_and c.from-residual-in-err-prices.result c.from-residual-in-err-prices.ensures.1 in
+pub returns-in_err-prices : goal.returns-in_err-prices
+returns-in_err-prices c =
+    let e = c.in_err-prices.ensures in
+    let p = err_from_is_err_and c.from-residual-in_err-prices.result c.from-residual-in_err-prices.ensures.1 in
     rw (p.1, p.2) (record { answers = cc; says = tt; spelled = unspelled c.args.grid.now c.args.words.now _ e })
 
-pub returns-in-err-flows : goal.returns-in-err-flows
-returns-in-err-flows c =
-    let e = c.in-err-flows.ensures in
-    let p = err_from_is_err_and c.from-residual-in-err-flows.result c.from-residual-in-err-flows.ensures.1 in
+pub returns-in_err-flows : goal.returns-in_err-flows
+returns-in_err-flows c =
+    let e = c.in_err-flows.ensures in
+    let p = err_from_is_err_and c.from-residual-in_err-flows.result c.from-residual-in_err-flows.ensures.1 in
     rw (p.1, p.2) (record { answers = cc; says = tt; spelled = unspelled c.args.grid.now c.args.words.now _ e })
 
-pub returns-in-err-readings : goal.returns-in-err-readings
-returns-in-err-readings c =
-    let e = c.in-err-readings.ensures in
-    let p = err_from_is_err_and c.from-residual-in-err-readings.result c.from-residual-in-err-readings.ensures.1 in
+pub returns-in_err-readings : goal.returns-in_err-readings
+returns-in_err-readings c =
+    let e = c.in_err-readings.ensures in
+    let p = err_from_is_err_and c.from-residual-in_err-readings.result c.from-residual-in_err-readings.ensures.1 in
     rw (p.1, p.2) (record { answers = cc; says = tt; spelled = unspelled c.args.grid.now c.args.words.now _ e })
 
 pub returns : goal.returns
 returns c =
     let grid = c.args.grid.now in
     let ws = c.args.words.now in
-    let used = c.in-ok-readings.readings.used in
-    let n = c.in-ok-number.ensures in
-    let h = c.in-ok-readings.ensures in
+    let used = c.in_ok-readings.readings.used in
+    let n = c.in_ok-number.ensures in
+    let h = c.in_ok-readings.ensures in
     let same = figures_are (of_grid grid) ws used h.inside _ grid.link_count grid.point_count _ _ _ _
     lowest_price highest_price lowest_flow highest_flow (links_count grid) (points_count grid) (omega arith) (omega arith) (omega arith) h.past n.1.1
-    c.in-ok-prices.ensures.figured c.in-ok-flows.ensures.figured h.readings in
+    c.in_ok-prices.ensures.figured c.in_ok-flows.ensures.figured h.readings in
     record {
       answers = sym h.answered;
       says = same;

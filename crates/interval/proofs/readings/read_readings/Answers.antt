@@ -15,14 +15,14 @@ loop-readings-init c =
     let from : readings_from net ≡ 1 + grid.region_count + grid.link_count = omega (arith, links_count grid) in
     rw (← from) (c.requires, omega arith, sym (least_none net ws), readings_start net ws)
 
-pub returns-in-err-closes-at : goal.returns-in-err-closes-at
-returns-in-err-closes-at c =
+pub returns-in_err-closes-at : goal.returns-in_err-closes-at
+returns-in_err-closes-at c =
     let grid = c.args.grid.now in
     let net = of_grid grid in
     let ws = c.args.ws.now in
     let j = c.loop-readings.j in
     let inv = c.loop-readings.invariant in
-    let h = c.in-err-closes-at.ensures in
+    let h = c.in_err-closes-at.ensures in
     let p = err_from_is_err_and c.from-residual.result c.from-residual.ensures.1 in
     rw (p.1, p.2) (stopped net ws j _ inv.0 (fault_after net ws j grid.point_count c.loop-readings.least inv.1 (points_count grid) inv.2 ∙ h))
 
@@ -33,7 +33,7 @@ returns-then-branch c =
     let ws = c.args.ws.now in
     let j = c.loop-readings.j in
     let inv = c.loop-readings.invariant in
-    let h = c.in-ok-closes-at.ensures in
+    let h = c.in_ok-closes-at.ensures in
     let here = h.1.1 in
     let six : eqb (kind (word ws j)) closing_kind ≡ true = cc in
     let none : fault net ws j ≡ None = fault_after net ws j grid.point_count c.loop-readings.least inv.1 (points_count grid) inv.2 ∙ h.0 in
@@ -51,7 +51,7 @@ loop-readings-preserved c =
     let ws = c.args.ws.now in
     let j = c.loop-readings.j in
     let inv = c.loop-readings.invariant in
-    let h = c.in-ok-closes-at.ensures in
+    let h = c.in_ok-closes-at.ensures in
     let here = h.1.1 in
     let six : eqb (kind (word ws j)) closing_kind ≡ false = cc in
     let none : fault net ws j ≡ None = fault_after net ws j grid.point_count c.loop-readings.least inv.1 (points_count grid) inv.2 ∙ h.0 in

@@ -4,8 +4,8 @@ use Rattle.units.specs.Floor.{rest}
 use Rattle.sharing.specs.Parts.{times_fits, times_back}
 use Rattle.sharing.proofs.amount.part_rest.Goals as goal
 
-pub overflow-mul-amount : goal.overflow-mul-amount
-overflow-mul-amount c = times_fits c.args.amount c.args.weight c.from.result c.from.ensures c.requires.0 (omega arith)
+pub overflow_mul-amount : goal.overflow_mul-amount
+overflow_mul-amount c = times_fits c.args.amount c.args.weight c.from.result c.from.ensures c.requires.0 (omega arith)
 
 pub returns : goal.returns
 returns c =

@@ -18,8 +18,8 @@ sizes g c =
     let came = ap nat_abs (small_back c.args.c.now.entry (omega arith)) in
     (omega (arith, c.worth.ensures.small), omega (arith, c.worth-2.ensures.small))
 
-pub overflow-sub-result : goal.overflow-sub-result
-overflow-sub-result g c = let small = sizes g c in difference_fits c.worth.result c.worth-2.result (omega arith)
+pub overflow_sub-result : goal.overflow_sub-result
+overflow_sub-result g c = let small = sizes g c in difference_fits c.worth.result c.worth-2.result (omega arith)
 
 pub returns : goal.returns
 returns g c =

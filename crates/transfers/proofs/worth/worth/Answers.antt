@@ -7,10 +7,10 @@ units_is : (c : goal.After-from) → to_z w64 (of_z w64 c.args.units) ≡ c.args
 units_is c = to_z-of_z w64 c.args.units c.ranges.units
 
 price_is : (c : goal.After-from) → to_z w64 (of_z w64 c.from.result) ≡ c.price-in.result
-price_is c = to_z-of_z w64 c.from.result (record { sfits = c.from.type-inv }) ∙ c.from.ensures ∙ to_z-of_z w32 c.price-in.result (record { sfits = c.price-in.type-inv })
+price_is c = to_z-of_z w64 c.from.result (record { sfits = c.from.type_inv }) ∙ c.from.ensures ∙ to_z-of_z w32 c.price-in.result (record { sfits = c.price-in.type_inv })
 
-pub overflow-mul-result : goal.overflow-mul-result
-overflow-mul-result c = product_fits _ _ _ _ 1000000000000 2000000 (units_is c) (price_is c) c.requires c.price-in.ensures.small (lit< tt)
+pub overflow_mul-result : goal.overflow_mul-result
+overflow_mul-result c = product_fits _ _ _ _ 1000000000000 2000000 (units_is c) (price_is c) c.requires c.price-in.ensures.small (lit< tt)
 
 pub returns : goal.returns
 returns c =

@@ -33,11 +33,11 @@ module _ (b : Balance) (sound : Sound b) (bound : ℕ) (high : bound ≤ 15000) 
   less : to_z w64 (of_z w64 (to_z w64 (of_z w64 (to_z w64 (of_z w64 b.gross) *ℤ to_z w64 (of_z w64 r))) -ℤ to_z w64 (of_z w64 b.at_own))) ≡ (b.gross *ℤ pos bound) -ℤ b.at_own
   less = to_z-of_z w64 _ less_fits ∙ ap₂ (λ x y. x -ℤ y) times own_back
 
-pub overflow-mul-result : goal.overflow-mul-result
-overflow-mul-result c = times_fits c.args.self.now c.requires.sound c.args.boundary c.requires.boundary c.from.result c.from.ensures
+pub overflow_mul-result : goal.overflow_mul-result
+overflow_mul-result c = times_fits c.args.self.now c.requires.sound c.args.boundary c.requires.boundary c.from.result c.from.ensures
 
-pub overflow-sub-result : goal.overflow-sub-result
-overflow-sub-result c = less_fits c.args.self.now c.requires.sound c.args.boundary c.requires.boundary c.from.result c.from.ensures
+pub overflow_sub-result : goal.overflow_sub-result
+overflow_sub-result c = less_fits c.args.self.now c.requires.sound c.args.boundary c.requires.boundary c.from.result c.from.ensures
 
 pub returns : goal.returns
 returns c =

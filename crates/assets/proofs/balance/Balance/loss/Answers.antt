@@ -21,8 +21,8 @@ module _ (b : Balance) (sound : Sound b) (r : ℤ) (small : nat_abs r ≤ 18000 
   product : to_z w64 (of_z w64 (to_z w64 (of_z w64 b.surplus) *ℤ to_z w64 (of_z w64 r))) ≡ b.surplus *ℤ r
   product = product_back _ _ b.surplus r 3200000 57600000000 surplus_back (small_back r (omega (arith, few))) (surplus_small b sound) few (lit< tt)
 
-pub overflow-mul-self : goal.overflow-mul-self
-overflow-mul-self c = fits c.args.self.now c.requires.sound c.difference.result c.difference.ensures.small
+pub overflow_mul-self : goal.overflow_mul-self
+overflow_mul-self c = fits c.args.self.now c.requires.sound c.difference.result c.difference.ensures.small
 
 pub returns-in-Some : goal.returns-in-Some
 returns-in-Some c =

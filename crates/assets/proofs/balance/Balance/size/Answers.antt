@@ -4,8 +4,8 @@ use Rattle.assets.specs.Balances.{size_of}
 use Rattle.assets.proofs.Balances.{gross_small, own_small, surplus_small, product_small}
 use Rattle.assets.proofs.balance.Balance.size.Goals as goal
 
-pub nonzero-div-result : goal.nonzero-div-result
-nonzero-div-result c =
+pub nonzero_div-result : goal.nonzero_div-result
+nonzero_div-result c =
     let b = c.args.self.now in
     let gross = c.unsigned-abs.ensures.value ∙ ap nat_abs (small_back b.gross (omega (arith, gross_small b c.requires.sound))) in
     mul-pos (omega (arith, gross, c.requires.used)) (omega (arith, c.from.ensures, c.requires.boundary))

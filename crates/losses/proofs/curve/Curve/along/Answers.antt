@@ -21,11 +21,11 @@ step c =
 few : (c : goal.After-saturating-sub) → c.loop-k.sum + get_or c.args.self.now.slopes c.loop-k.k 0 * c.saturating-sub.result ≤ 10000 * (c.args.size - 0)
 few c = omega (arith, step c, c.loop-k.invariant, along_le 0 (segments c.args.self.now) c.args.size c.args.self.now.sound)
 
-pub overflow-mul-sum : goal.overflow-mul-sum
-overflow-mul-sum c = omega (arith, few c)
+pub overflow_mul-sum : goal.overflow_mul-sum
+overflow_mul-sum c = omega (arith, few c)
 
-pub overflow-add-sum : goal.overflow-add-sum
-overflow-add-sum c = omega (arith, few c)
+pub overflow_add-sum : goal.overflow_add-sum
+overflow_add-sum c = omega (arith, few c)
 
 pub loop-k-preserved : goal.loop-k-preserved
 loop-k-preserved c = omega (arith, step c, c.loop-k.invariant)

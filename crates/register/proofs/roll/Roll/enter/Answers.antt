@@ -5,7 +5,7 @@ use Rattle.register.proofs.roll.Roll.enter.Goals as goal
 pub returns : goal.returns
 returns g c =
     let number = c.entered-number.ensures.value in
-    let none = sym c.in-default.ensures in
+    let none = sym c.in_default.ensures in
     let few : c.entered-number.result < g.E.Entry.greatest = omega arith in
     let room : c.entered-number.result < length c.args.self.now.slots.now = omega arith in
     record {

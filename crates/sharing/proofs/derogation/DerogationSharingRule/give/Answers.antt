@@ -10,8 +10,8 @@ returns-then-row-eq0 g c =
     let rule = derogated c.args.self.now.part (g.R.SharingRule.meaning c.args.self.now.below) in
     given_none rule c.args.amount c.args.row.now c.if-row-eq0.true
 
-pub overflow-sub-amount : goal.overflow-sub-amount
-overflow-sub-amount g c =
+pub overflow_sub-amount : goal.overflow_sub-amount
+overflow_sub-amount g c =
     let whole : non_zero_u32_get c.unwrap-whole.result ≡ 10000 = search rules in
     left_fits c.args.self.now.part c.args.amount c.within_limit.result c.part-first.result c.min.result (non_zero_u32_get c.unwrap-whole.result) c.ranges.amount c.within_limit.ensures.value c.within_limit.ensures.bound c.min.ensures whole c.part-first.ensures.value c.part-first.ensures.bound
 

@@ -10,8 +10,8 @@ use Rattle.sharing.proofs.nearest.NearestSharingRule.give.Goals as goal
 pub loop-k-init : goal.loop-k-init
 loop-k-init c = sym (over_none _ _)
 
-pub overflow-add-row : goal.overflow-add-row
-overflow-add-row c = cent_fits c.part.result _ c.part.ensures.bound
+pub overflow_add-row : goal.overflow_add-row
+overflow_add-row c = cent_fits c.part.result _ c.part.ensures.bound
 
 pub loop-k-preserved : goal.loop-k-preserved
 loop-k-preserved c =

@@ -20,8 +20,8 @@ loop-k-init c =
     let none = ap (λ z. floor z total) (*ℤ-zero (to_z w64 (of_z w64 c.within-limit-shared.result))) ∙ floor_zero total in
     (sym (over_none _ _), refl, sym none, omega arith)
 
-pub overflow-add-weight : goal.overflow-add-weight
-overflow-add-weight c =
+pub overflow_add-weight : goal.overflow_add-weight
+overflow_add-weight c =
     let weights = c.args.self.now.weights in
     omega (arith, weights.bound, upto_few weights.count c.loop-k.k (weight_at weights.parts) c.loop-k.weight (non_zero_u32_get weights.total) (omega arith) c.loop-k.invariant.1 weights.sound)
 

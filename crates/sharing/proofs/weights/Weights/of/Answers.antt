@@ -5,8 +5,8 @@ use Rattle.sharing.specs.Fillings.{weight_at, all}
 use Rattle.sharing.proofs.Weighed.{padded, padded_all}
 use Rattle.sharing.proofs.weights.Weights.of.Goals as goal
 
-pub invariant-of-result : goal.invariant-of-result
-invariant-of-result c =
+pub invariant_of-result : goal.invariant_of-result
+invariant_of-result c =
     let weights = c.args.weights.now in
     let copied = c.copy-from-slice.ensures.after in
     let total : non_zero_u32_get c.unwrap.result ≡ all weights = search rules in

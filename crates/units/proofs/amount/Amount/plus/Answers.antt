@@ -35,8 +35,8 @@ with_carry x y g h = omega (arith, ints)
 cents_with_carry : (x y : ℤ) (g h : ℕ) → x +ℤ y +ℤ pos ((g + h) / 10000000) ≡ whole_cents (row x g +ℤ row y h)
 cents_with_carry x y g h = (floor_rest_unique 10000000 (lit< tt) _ _ ((g + h) % 10000000) (sym (with_carry x y g h)) (omega arith)).0
 
-pub overflow-add-cents-2 : goal.overflow-add-cents-2
-overflow-add-cents-2 c =
+pub overflow_add-cents-2 : goal.overflow_add-cents-2
+overflow_add-cents-2 c =
     let f : SFits w64 c.args.self.cents = search rules in
     let g : SFits w64 c.args.other.cents = search rules in
     omega (arith, ints)
