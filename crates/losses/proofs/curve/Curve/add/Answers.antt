@@ -8,7 +8,7 @@ use Rattle.losses.proofs.curve.Curve.add.Goals as goal
 pub invariant_of-self : goal.invariant_of-self
 invariant_of-self c =
     let more = segments_push c.args.self.now c.args.upper c.args.slope (omega arith) (omega arith) c.in_default.ensures in
-    (more.0, (more.1, tt))
+    record { few = more.0; sound = more.1 }
 
 pub returns : goal.returns
 returns c =

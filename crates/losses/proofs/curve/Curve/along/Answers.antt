@@ -6,8 +6,8 @@ use Rattle.losses.proofs.curve.Curve.along.Goals as goal
 use Rattle.losses.proofs.curve.Curve.along.Goals.{then-k-self, else-k-self}
 
 -- the segment of this turn, and those that are left
-step : (c : goal.After-saturating-sub) → along c.loop-k.low (drop c.loop-k.k (segments c.args.self.now)) c.args.size
-    ≡ get_or c.args.self.now.slopes c.loop-k.k 0 * c.saturating-sub.result + along (get_or c.args.self.now.uppers c.loop-k.k 0) (drop (c.loop-k.k + 1) (segments c.args.self.now)) c.args.size
+step : (c : goal.After-saturating_sub) → along c.loop-k.low (drop c.loop-k.k (segments c.args.self.now)) c.args.size
+    ≡ get_or c.args.self.now.slopes c.loop-k.k 0 * c.saturating_sub.result + along (get_or c.args.self.now.uppers c.loop-k.k 0) (drop (c.loop-k.k + 1) (segments c.args.self.now)) c.args.size
 step c =
     let curve = c.args.self.now in
     let k = c.loop-k.k in
@@ -16,9 +16,9 @@ step c =
     let last : curve.count ≤ k + 1 → c.if-k-self.end ≡ c.args.size =
     λ l. elim c.if-k-self.branch [ then-k-self w ↦ absurd (omega (arith, w.if-k-self.true)) | else-k-self w ↦ w.end-is ] in
     along_more curve k c.loop-k.low c.args.size c.if-k-self.end c.loop-k-test.true inner last
-    ∙ ap (λ d. get_or curve.slopes k 0 * d + along (get_or curve.uppers k 0) (drop (k + 1) (segments curve)) c.args.size) (sym c.saturating-sub.ensures)
+    ∙ ap (λ d. get_or curve.slopes k 0 * d + along (get_or curve.uppers k 0) (drop (k + 1) (segments curve)) c.args.size) (sym c.saturating_sub.ensures)
 
-few : (c : goal.After-saturating-sub) → c.loop-k.sum + get_or c.args.self.now.slopes c.loop-k.k 0 * c.saturating-sub.result ≤ 10000 * (c.args.size - 0)
+few : (c : goal.After-saturating_sub) → c.loop-k.sum + get_or c.args.self.now.slopes c.loop-k.k 0 * c.saturating_sub.result ≤ 10000 * (c.args.size - 0)
 few c = omega (arith, step c, c.loop-k.invariant, along_le 0 (segments c.args.self.now) c.args.size c.args.self.now.sound)
 
 pub overflow_mul-sum : goal.overflow_mul-sum

@@ -6,7 +6,7 @@ use Rattle.sharing.specs.Fillings.{weight_at}
 use Rattle.sharing.specs.Weighted.{remainder, sooner}
 use Rattle.sharing.proofs.Shared.{sooner_is}
 use Rattle.sharing.proofs.nearest.Nearest.ahead.Goals as goal
-use Rattle.sharing.proofs.nearest.Nearest.ahead.Goals.{then-goes-first, else-goes-first}
+use Rattle.sharing.proofs.nearest.Nearest.ahead.Goals.{then-goes_first, else-goes_first}
 
 pub loop-j-preserved : goal.loop-j-preserved
 loop-j-preserved c =
@@ -14,10 +14,10 @@ loop-j-preserved c =
     let j = c.loop-j.j in
     let k = c.args.k in
     let left = remainder weights.count (weight_at weights.parts) (to_z w64 (of_z w64 c.args.amount)) in
-    let test = sooner_is left j k c.rest.result c.rest-own.result c.goes-first.result c.goes-first.ensures c.rest.ensures c.rest-own.ensures in
+    let test = sooner_is left j k c.rest.result c.rest-own.result c.goes_first.result c.goes_first.ensures c.rest.ensures c.rest-own.ensures in
     elim c.if-goes-first.branch [
-      | then-goes-first w ↦ (w.before-is ∙ tally_yes j (λ i. sooner left i k) c.loop-j.before c.loop-j.invariant.0 (test ∙ w.if-goes-first.true), omega (arith, w.before-is))
-      | else-goes-first w ↦ (w.before-is ∙ tally_no j (λ i. sooner left i k) c.loop-j.before c.loop-j.invariant.0 (test ∙ w.if-goes-first.false), omega (arith, w.before-is))
+      | then-goes_first w ↦ (w.before-is ∙ tally_yes j (λ i. sooner left i k) c.loop-j.before c.loop-j.invariant.0 (test ∙ w.if-goes-first.true), omega (arith, w.before-is))
+      | else-goes_first w ↦ (w.before-is ∙ tally_no j (λ i. sooner left i k) c.loop-j.before c.loop-j.invariant.0 (test ∙ w.if-goes-first.false), omega (arith, w.before-is))
     ]
 
 pub returns : goal.returns

@@ -18,4 +18,4 @@ returns c =
     let all : c.loop-k.k ≡ weights.count = omega arith in
     let back = to_z-of_z w64 c.args.amount c.ranges.amount in
     let left = c.loop-k.invariant.0 ∙ (λ i. back i -ℤ total (all i) (down weights.count (weight_at weights.parts) (back i))) in
-    c.unsigned-abs.ensures.value ∙ ap nat_abs left
+    c.unsigned_abs.ensures.value ∙ ap nat_abs left

@@ -17,9 +17,9 @@ pub loop-k-preserved : goal.loop-k-preserved
 loop-k-preserved c =
     let self = c.args.self.now in
     let amount = to_z w64 (of_z w64 c.args.amount) in
-    let shared = small_back c.within-limit-shared.result (omega arith) ∙ c.within-limit-shared.ensures.value in
+    let shared = small_back c.within_limit-shared.result (omega arith) ∙ c.within_limit-shared.ensures.value in
     let share = cent_more c.part.result _ c.part.ensures.bound
-    ∙ nearest_step self.weights.count (weight_at self.weights.parts) c.loop-k.k amount _ _ _ _ shared (omega arith) c.part.ensures.value c.ahead.ensures c.odd-cents-odd.ensures in
+    ∙ nearest_step self.weights.count (weight_at self.weights.parts) c.loop-k.k amount _ _ _ _ shared (omega arith) c.part.ensures.value c.ahead.ensures c.odd_cents-odd.ensures in
     give_more (nearest_by self) amount c.args.row.now c.loop-k.row c.loop-k.k c.loop-k.invariant _ (omega arith) share
 
 pub returns : goal.returns

@@ -17,7 +17,7 @@ use Rattle.sharing.proofs.running.RunningSharingRule.give.Goals as goal
 pub loop-k-init : goal.loop-k-init
 loop-k-init c =
     let total = non_zero_u32_get c.args.self.now.weights.total in
-    let none = ap (λ z. floor z total) (*ℤ-zero (to_z w64 (of_z w64 c.within-limit-shared.result))) ∙ floor_zero total in
+    let none = ap (λ z. floor z total) (*ℤ-zero (to_z w64 (of_z w64 c.within_limit-shared.result))) ∙ floor_zero total in
     (sym (over_none _ _), refl, sym none, omega arith)
 
 pub overflow_add-weight : goal.overflow_add-weight
@@ -40,7 +40,7 @@ loop-k-preserved c =
     let weights = self.weights in
     let weight = weight_at weights.parts in
     let amount = to_z w64 (of_z w64 c.args.amount) in
-    let shared = small_back c.within-limit-shared.result (omega arith) ∙ c.within-limit-shared.ensures.value in
+    let shared = small_back c.within_limit-shared.result (omega arith) ∙ c.within_limit-shared.ensures.value in
     let upto = small_back c.part-upto.result (omega arith) ∙ c.part-upto.ensures.value in
     let paid = sym c.loop-k.paid-is ∙ c.loop-k.invariant.2 in
     let share = difference c.part-upto.result c.loop-k.paid c.loop-k.paid-is c.part-upto.ensures.bound (omega (arith, ints))

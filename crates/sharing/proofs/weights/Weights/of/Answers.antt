@@ -8,12 +8,12 @@ use Rattle.sharing.proofs.weights.Weights.of.Goals as goal
 pub invariant_of-result : goal.invariant_of-result
 invariant_of-result c =
     let weights = c.args.weights.now in
-    let copied = c.copy-from-slice.ensures.after in
+    let copied = c.copy_from_slice.ensures.after in
     let total : non_zero_u32_get c.unwrap.result ≡ all weights = search rules in
     let sound = total ∙ padded_all weights (length weights - 0) ∙ ap (λ xs. sum (length weights) (weight_at (xs ++ drop (length weights - 0) (replicate 16 0)))) (sym copied) in
-    (c.if-count-lt1.false, (c.if-count-gt-MOST.false, (sound, (omega (arith, total), tt))))
+    record { some = c.if-count-lt1.false; few = c.if-count-gt-MOST.false; sound = sound; bound = omega (arith, total) }
 
 pub returns : goal.returns
 returns c =
     let weights = c.args.weights.now in
-    (grind arith, refl, λ k. ap (λ xs. weight_at (xs ++ drop (length weights - 0) (replicate 16 0)) k) c.copy-from-slice.ensures.after ∙ padded weights (length weights - 0) k)
+    (grind arith, refl, λ k. ap (λ xs. weight_at (xs ++ drop (length weights - 0) (replicate 16 0)) k) c.copy_from_slice.ensures.after ∙ padded weights (length weights - 0) k)

@@ -14,7 +14,7 @@ pub loop-k-preserved : goal.loop-k-preserved
 loop-k-preserved c =
     let self = c.args.self.now in
     let amount = to_z w64 (of_z w64 c.args.amount) in
-    let shared = small_back c.within-limit-shared.result (omega arith) ∙ c.within-limit-shared.ensures.value in
+    let shared = small_back c.within_limit-shared.result (omega arith) ∙ c.within_limit-shared.ensures.value in
     let share = difference_back c.part.result c.part-in-loop-k.result (omega arith)
     ∙ equal_step (non_zero_u32_get self.owners) c.loop-k.k amount _ _ _ shared (omega arith) c.part.ensures.value c.part-in-loop-k.ensures.value in
     give_more (equal_by self) amount c.args.row.now c.loop-k.row c.loop-k.k c.loop-k.invariant _ (omega arith) share
