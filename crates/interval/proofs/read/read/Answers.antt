@@ -24,34 +24,34 @@ returns-in_err-number c =
     let net = of_grid c.args.grid.now in
     let ws = c.args.words.now in
     let h = c.in_err-number.ensures in
-    let p = err_from_is_err_and c.from-residual.result c.from-residual.ensures.1 in
+    let p = err_from_is_err_and c.from_residual.result c.from_residual.ensures.1 in
     let e = stopped net ws 0 _ (reached_none net ws) (fault_first net ws ∙ h) in
     rw (p.1, p.2) (record { answers = cc; says = tt; spelled = unspelled c.args.grid.now ws _ e })
 
-pub read-prices-requires : goal.read-prices-requires
-read-prices-requires c =
+pub read_prices-requires : goal.read_prices-requires
+read_prices-requires c =
     let h = c.in_ok-number.ensures in
     reached_first (of_grid c.args.grid.now) c.args.words.now h.1.0 h.0
 
-pub read-readings-requires : goal.read-readings-requires
-read-readings-requires c = let e = links_count c.args.grid.now in rw e c.in_ok-flows.ensures.reached
+pub read_readings-requires : goal.read_readings-requires
+read_readings-requires c = let e = links_count c.args.grid.now in rw e c.in_ok-flows.ensures.reached
 
 pub returns-in_err-prices : goal.returns-in_err-prices
 returns-in_err-prices c =
     let e = c.in_err-prices.ensures in
-    let p = err_from_is_err_and c.from-residual-in_err-prices.result c.from-residual-in_err-prices.ensures.1 in
+    let p = err_from_is_err_and c.from_residual-in_err-prices.result c.from_residual-in_err-prices.ensures.1 in
     rw (p.1, p.2) (record { answers = cc; says = tt; spelled = unspelled c.args.grid.now c.args.words.now _ e })
 
 pub returns-in_err-flows : goal.returns-in_err-flows
 returns-in_err-flows c =
     let e = c.in_err-flows.ensures in
-    let p = err_from_is_err_and c.from-residual-in_err-flows.result c.from-residual-in_err-flows.ensures.1 in
+    let p = err_from_is_err_and c.from_residual-in_err-flows.result c.from_residual-in_err-flows.ensures.1 in
     rw (p.1, p.2) (record { answers = cc; says = tt; spelled = unspelled c.args.grid.now c.args.words.now _ e })
 
 pub returns-in_err-readings : goal.returns-in_err-readings
 returns-in_err-readings c =
     let e = c.in_err-readings.ensures in
-    let p = err_from_is_err_and c.from-residual-in_err-readings.result c.from-residual-in_err-readings.ensures.1 in
+    let p = err_from_is_err_and c.from_residual-in_err-readings.result c.from_residual-in_err-readings.ensures.1 in
     rw (p.1, p.2) (record { answers = cc; says = tt; spelled = unspelled c.args.grid.now c.args.words.now _ e })
 
 pub returns : goal.returns

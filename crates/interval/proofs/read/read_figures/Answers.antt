@@ -10,7 +10,7 @@ returns-in_err-figures c =
     let high : SFits w32 c.args.high = search rules in
     let h = simp to_z-of_z at c.in_err-figures.ensures in
     let inv = simp to_z-of_z at c.loop-i.invariant in
-    let p = err_from_is_err_and c.from-residual.result c.from-residual.ensures.1 in
+    let p = err_from_is_err_and c.from_residual.result c.from_residual.ensures.1 in
     rw (p.1, p.2) (c.loop-i.i, omega arith, inv.passed, h)
 
 pub loop-i-preserved : goal.loop-i-preserved

@@ -14,4 +14,4 @@ returns c =
     let ws = c.args.ws.now in
     let links = links_count grid in
     run_read net ws (1 + net.regions) flow_kind lowest_flow highest_flow grid.link_count c.requires
-    (λ i h. (fault_flow net ws i (omega arith), open_before net ws (1 + net.regions + i) (omega arith))) c.read-figures.result c.read-figures.ensures
+    (λ i h. (fault_flow net ws i (omega arith), open_before net ws (1 + net.regions + i) (omega arith))) c.read_figures.result c.read_figures.ensures

@@ -11,4 +11,4 @@ returns c =
     let net = of_grid c.args.grid.now in
     let ws = c.args.ws.now in
     run_read net ws 1 price_kind lowest_price highest_price net.regions c.requires
-    (λ i h. (fault_price net ws i h, open_before net ws (1 + i) (omega arith))) c.read-figures.result c.read-figures.ensures
+    (λ i h. (fault_price net ws i h, open_before net ws (1 + i) (omega arith))) c.read_figures.result c.read_figures.ensures

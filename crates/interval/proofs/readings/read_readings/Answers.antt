@@ -15,15 +15,15 @@ loop-readings-init c =
     let from : readings_from net ≡ 1 + grid.region_count + grid.link_count = omega (arith, links_count grid) in
     rw (← from) (c.requires, omega arith, sym (least_none net ws), readings_start net ws)
 
-pub returns-in_err-closes-at : goal.returns-in_err-closes-at
-returns-in_err-closes-at c =
+pub returns-in_err-closes_at : goal.returns-in_err-closes_at
+returns-in_err-closes_at c =
     let grid = c.args.grid.now in
     let net = of_grid grid in
     let ws = c.args.ws.now in
     let j = c.loop-readings.j in
     let inv = c.loop-readings.invariant in
-    let h = c.in_err-closes-at.ensures in
-    let p = err_from_is_err_and c.from-residual.result c.from-residual.ensures.1 in
+    let h = c.in_err-closes_at.ensures in
+    let p = err_from_is_err_and c.from_residual.result c.from_residual.ensures.1 in
     rw (p.1, p.2) (stopped net ws j _ inv.0 (fault_after net ws j grid.point_count c.loop-readings.least inv.1 (points_count grid) inv.2 ∙ h))
 
 pub returns-then-branch : goal.returns-then-branch
@@ -33,7 +33,7 @@ returns-then-branch c =
     let ws = c.args.ws.now in
     let j = c.loop-readings.j in
     let inv = c.loop-readings.invariant in
-    let h = c.in_ok-closes-at.ensures in
+    let h = c.in_ok-closes_at.ensures in
     let here = h.1.1 in
     let six : eqb (kind (word ws j)) closing_kind ≡ true = cc in
     let none : fault net ws j ≡ None = fault_after net ws j grid.point_count c.loop-readings.least inv.1 (points_count grid) inv.2 ∙ h.0 in
@@ -51,7 +51,7 @@ loop-readings-preserved c =
     let ws = c.args.ws.now in
     let j = c.loop-readings.j in
     let inv = c.loop-readings.invariant in
-    let h = c.in_ok-closes-at.ensures in
+    let h = c.in_ok-closes_at.ensures in
     let here = h.1.1 in
     let six : eqb (kind (word ws j)) closing_kind ≡ false = cc in
     let none : fault net ws j ≡ None = fault_after net ws j grid.point_count c.loop-readings.least inv.1 (points_count grid) inv.2 ∙ h.0 in
@@ -59,6 +59,6 @@ loop-readings-preserved c =
     let more = readings_more net ws j _ _ inv.3 grid.point_count c.loop-readings.least (omega arith) inv.1 is in (
       reached_more net ws j inv.0 h.1.0 none (closes_after net ws j inv.1 ∙ six),
       omega (arith, inv.1),
-      ap (λ n. n + 1) c.rank-of-least.ensures ∙ sym (least_more net ws j inv.1),
+      ap (λ n. n + 1) c.rank_of-least.ensures ∙ sym (least_more net ws j inv.1),
       rw (c.store.ensures.sent, c.store.ensures.taken) more,
     )

@@ -19,6 +19,6 @@ returns-then-reference-ne0 c =
     record {
       energy_grown = written c.args.self.now.energy c.args.reference c.from.result (pos c.args.energy) (λ e. absurd (omega arith)) c.from.ensures
           (omega (arith, room.few (c.args.reference - 1) low, ap nat_abs c.from.ensures, c.requires.small));
-      own_grown = written c.args.self.now.at_own c.args.reference c.at-own.result _ (λ e. absurd (omega arith)) c.at-own.ensures.value
-          (omega (arith, room.light (c.args.reference - 1) low, c.at-own.ensures.small));
+      own_grown = written c.args.self.now.at_own c.args.reference c.at_own.result _ (λ e. absurd (omega arith)) c.at_own.ensures.value
+          (omega (arith, room.light (c.args.reference - 1) low, c.at_own.ensures.small));
     }

@@ -16,17 +16,17 @@ entries_are most roll within zero n out count is =
 pub returns : goal.returns
 returns c =
     let register = c.args.register.now in
-    let corridors = entries_are 8 register.corridors register.few_corridors _ _ _ c.copy-to-corridor-count.ensures.count c.copy-to-corridor-count.ensures.copied in
-    let links = entries_are 8 register.links register.few_links _ _ _ c.copy-to-link-count.ensures.count c.copy-to-link-count.ensures.copied in
-    let points = entries_are 128 register.points register.few_points _ _ _ c.copy-to-point-count.ensures.count c.copy-to-point-count.ensures.copied in
-    let dnas = entries_are 8 register.dnas register.few_dnas _ _ _ c.copy-to-dna-count.ensures.count c.copy-to-dna-count.ensures.copied in
+    let corridors = entries_are 8 register.corridors register.few_corridors _ _ _ c.copy_to-corridor_count.ensures.count c.copy_to-corridor_count.ensures.copied in
+    let links = entries_are 8 register.links register.few_links _ _ _ c.copy_to-link_count.ensures.count c.copy_to-link_count.ensures.copied in
+    let points = entries_are 128 register.points register.few_points _ _ _ c.copy_to-point_count.ensures.count c.copy_to-point_count.ensures.copied in
+    let dnas = entries_are 8 register.dnas register.few_dnas _ _ _ c.copy_to-dna_count.ensures.count c.copy_to-dna_count.ensures.copied in
     record {
       copied = λ t. record { regions = c.len.ensures.value t; corridors = corridors t; links = links t; points = points t; dnas = dnas t };
       same = λ t. record {
         regions = held (c.len.ensures.same t);
-        corridors = held (c.copy-to-corridor-count.ensures.same t);
-        links = held (c.copy-to-link-count.ensures.same t);
-        points = held (c.copy-to-point-count.ensures.same t);
-        dnas = held (c.copy-to-dna-count.ensures.same t);
+        corridors = held (c.copy_to-corridor_count.ensures.same t);
+        links = held (c.copy_to-link_count.ensures.same t);
+        points = held (c.copy_to-point_count.ensures.same t);
+        dnas = held (c.copy_to-dna_count.ensures.same t);
       };
     }

@@ -15,9 +15,9 @@ loop-j-preserved c =
     let k = c.args.k in
     let left = remainder weights.count (weight_at weights.parts) (to_z w64 (of_z w64 c.args.amount)) in
     let test = sooner_is left j k c.rest.result c.rest-own.result c.goes_first.result c.goes_first.ensures c.rest.ensures c.rest-own.ensures in
-    elim c.if-goes-first.branch [
-      | then-goes_first w ↦ (w.before-is ∙ tally_yes j (λ i. sooner left i k) c.loop-j.before c.loop-j.invariant.0 (test ∙ w.if-goes-first.true), omega (arith, w.before-is))
-      | else-goes_first w ↦ (w.before-is ∙ tally_no j (λ i. sooner left i k) c.loop-j.before c.loop-j.invariant.0 (test ∙ w.if-goes-first.false), omega (arith, w.before-is))
+    elim c.if-goes_first.branch [
+      | then-goes_first w ↦ (w.before-is ∙ tally_yes j (λ i. sooner left i k) c.loop-j.before c.loop-j.invariant.0 (test ∙ w.if-goes_first.true), omega (arith, w.before-is))
+      | else-goes_first w ↦ (w.before-is ∙ tally_no j (λ i. sooner left i k) c.loop-j.before c.loop-j.invariant.0 (test ∙ w.if-goes_first.false), omega (arith, w.before-is))
     ]
 
 pub returns : goal.returns

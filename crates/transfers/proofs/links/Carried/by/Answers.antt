@@ -14,7 +14,7 @@ returns-then-link-grid g c =
     let fig = fig_of grid c.args.metered.now in
     let loss = g.B.LossBook.meaning c.args.book.now in
     let b = g.met.B.LossBook.bounded c.args.book.now in
-    let is = c.carried-at.ensures in
+    let is = c.carried_at.ensures in
     let low : c.args.link < length (of_checked c.args.grid.now).links = omega (arith, links_count grid.grid) in
     record {
       value = (λ t. Some (record { exporter = is.exporter_is t; importer = is.importer_is t; entry = is.entry_is t; exit = is.exit_is t }))
