@@ -52,7 +52,7 @@ add_at-requires-3 g c =
 pub add_at-requires-4 : goal.add_at-requires-4
 add_at-requires-4 g c =
     let grid = c.args.grid.now in
-    let is = flow_widened grid c.args.metered.now c.args.link c.requires.entered c.from-flow.result (record { sfits = c.from-flow.type-inv }) c.from-flow.ensures in
+    let is = flow_widened grid c.args.metered.now c.args.link c.requires.entered c.from-flow.result (record { sfits = c.from-flow.type_inv }) c.from-flow.ensures in
     record {
       low = link_corridor_low grid c.args.link c.requires.entered;
       fits = corridor_fits grid (flow (fig_of grid c.args.metered.now)) c.args.link c.requires.entered _ is c.args.sums.now.flows c.requires.before.flows 200000 (flows_small grid c.args.metered.now) (lit< tt);
@@ -70,7 +70,7 @@ returns g c =
     let sums = c.add_at.ensures ∙ ap (added c.args.sums.now.exports c.carried_at-c.result.exporter) (small_back c.carried_at-c.result.entry (omega arith)) in
     let after = c.add_at-2.ensures ∙ ap₂ (λ xs z. added xs c.carried_at-c.result.importer z) sums (minus_back c.carried_at-c.result.exit (omega arith)) in
     let residue_is = small_back c.residue_at-residue.result (omega arith) ∙ c.residue_at-residue.ensures.value in
-    let flow_is = flow_widened grid m i c.requires.entered c.from-flow.result (record { sfits = c.from-flow.type-inv }) c.from-flow.ensures in
+    let flow_is = flow_widened grid m i c.requires.entered c.from-flow.result (record { sfits = c.from-flow.type_inv }) c.from-flow.ensures in
     record {
       exports = moved _ _ _ after (export_step grid m loss b i c.carried_at-c.result is c.args.sums.now.exports c.requires.before.exports few);
       residues = moved _ _ _ c.add_at-3.ensures (corridor_step grid (link_residue (of_checked grid) (fig_of grid m) loss) i c.requires.entered _ residue_is c.args.sums.now.residues c.requires.before.residues);
