@@ -1,5 +1,5 @@
 -- Lists of figures: none yet, one more, and a whole run.
-use Rattle.std.proofs.Common.{◌≡◌, ℕ, zero, suc, ◌+◌, ◌<◌, ◌≤◌, false, ltb, ◌≢◌, ◌⊎◌, List, length, get_or, set, replicate, ℤ, pos, ◌≤ℤ◌, None, Ok, Err, Result, sym, refl, ◌∙◌, subst, ⊎_elim, add-zero, arith, below_more}
+use Rattle.std.proofs.Common.{◌≡◌, ℕ, zero, suc, ◌+◌, ◌<◌, ◌≤◌, false, ltb, ◌≢◌, List, length, get_or, set, replicate, ℤ, pos, ◌≤ℤ◌, None, Ok, Err, Result, sym, refl, ◌∙◌, subst, ⊎_elim, add-zero, arith, below_more}
 use Rattle.units.specs.declared.refusal.Refusal.{Refusal}
 use Rattle.units.specs.Refusals.{told}
 use Rattle.std.proofs.lemmas.List.{length-set, get_or-set_same, get_or-set_other, set_past}

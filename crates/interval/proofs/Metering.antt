@@ -4,7 +4,7 @@ use Rattle.std.proofs.lemmas.List.{length-set, length-replicate, get_or-set_same
 use Rattle.std.proofs.lemmas.Bool.{cases_eq, eq-eqb, ne_eqb, le-leb, lt-leb, and_from, and_left, and_right, and_parts, or_cases, cond-true, cond-false, eqb-true, ltb-true, leb-true}
 use Rattle.register.specs.Contents.{Network}
 use Rattle.interval.specs.Ranges.{highest_energy}
-use Rattle.interval.specs.Words.{word, kind, sent_kind, taken_kind, closing_kind, point, energy, rank, reads, reading_of, reading, late, present, readings_from}
+use Rattle.interval.specs.Words.{word, kind, sent_kind, taken_kind, closing_kind, point, energy, rank, reads, reading_of, late, present, readings_from}
 use Rattle.interval.specs.Steps.{ReadReadings}
 use Rattle.interval.proofs.Order.{required}
 use Rattle.interval.proofs.Filled.{upto_set, blank}

@@ -1,5 +1,5 @@
 -- The words of figures are read, and say these figures.
-use Rattle.std.proofs.Common.{◌≡◌, ℕ, zero, suc, ◌+◌, ◌-◌, ◌*◌, ◌/◌, ◌%◌, ◌^◌, ◌<◌, ◌≤◌, Bool, true, false, ◌&&◌, ◌||◌, T, eqb, ltb, leb, ◌⊎◌, List, length, get_or, take, ℤ, pos, negsuc, ◌≤ℤ◌, None, Option, sym, refl, ap, ◌∙◌, subst, inr, ⊎_elim, add-one, arith}
+use Rattle.std.proofs.Common.{◌≡◌, ℕ, zero, suc, ◌+◌, ◌-◌, ◌*◌, ◌/◌, ◌%◌, ◌^◌, ◌<◌, ◌≤◌, Bool, true, false, ◌&&◌, ◌||◌, T, eqb, ltb, leb, List, length, get_or, take, ℤ, pos, negsuc, ◌≤ℤ◌, None, Option, sym, refl, ap, ◌∙◌, subst, inr, ⊎_elim, add-one, arith}
 use lib.Signed.{le_z}
 use Rattle.std.proofs.lemmas.List.{get_or-take, get_or_default, length-take-le}
 use Rattle.std.proofs.lemmas.Int.{ints}

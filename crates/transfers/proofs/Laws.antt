@@ -1,5 +1,5 @@
 -- What enters the links and does not leave them is lost, and all net exports together are what is lost.
-use Rattle.std.proofs.Common.{◌≡◌, ℕ, ◌*◌, ◌<◌, ◌≤◌, eqb, length, ℤ, pos, ◌-ℤ◌, ◌*ℤ◌, nat_abs, ◌≤ℤ◌, sym, ◌∙◌, ap₂}
+use Rattle.std.proofs.Common.{◌≡◌, ℕ, ◌*◌, ◌<◌, eqb, length, ℤ, pos, ◌-ℤ◌, ◌*ℤ◌, nat_abs, ◌≤ℤ◌, sym, ◌∙◌, ap₂}
 use Rattle.units.specs.Sums.{total, when}
 use Rattle.units.proofs.Ring.{*ℤ_distrib_right_sub, *ℤ_one_right}
 use Rattle.units.proofs.Totals.{when_scale, total_ext, total_sub, total_scale, total_swap, total_pick}

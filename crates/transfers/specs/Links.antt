@@ -1,5 +1,5 @@
 -- What enters and leaves each link in an interval, and the residue between regions.
-use Rattle.std.specs.Prelude.{ℕ, ◌*◌, Bool, cond, length, ℤ, pos, ◌-ℤ◌, ◌*ℤ◌, ◌==◌, int_le, int_lt, unsigned_abs}
+use Rattle.std.specs.Prelude.{ℕ, Bool, cond, length, ℤ, pos, ◌-ℤ◌, ◌*ℤ◌, ◌==◌, int_le, int_lt, unsigned_abs}
 use Rattle.transfers.specs.Ends.{exporting, entering, leaving}
 use Rattle.units.specs.Sums.{total, when}
 use Rattle.register.specs.Contents.{Network}
