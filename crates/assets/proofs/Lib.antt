@@ -4,3 +4,6 @@ pub mod Estimates
 pub mod Feeding
 pub mod Balances
 pub mod Weighing
+pub mod Passing
+pub mod Beginning
+pub mod Estimating

@@ -11,7 +11,7 @@ use Rattle.assets.proofs.Sizes.{Sized}
 use Rattle.assets.proofs.Estimates.{sent_more, taken_more, larger_sized, within, own_size}
 
 module _ (s t : Side) (S : Sized s 3200000) (T : Sized t 3200000) where
-  abbrev balance : Balance
+  abbrev pub balance : Balance
   balance = weighed (s energy) (s at_own) (t energy) (t at_own)
 
   more : T.kwh < S.kwh → balance ≡ record { surplus = surplus s t; gross = s energy; at_own = s at_own }
