@@ -1,16 +1,15 @@
 -- No asset is worked yet.
-use Rattle.std.proofs.Common.{◌≡◌, ℕ, ◌+◌, ◌-◌, ◌<◌, ◌≤◌, Bool, true, false, ◌&&◌, leb, ltb, List, length, get_or, replicate, ℤ, pos, ◌+ℤ◌, nat_abs, sym, refl, ap, ◌∙◌, ⊎_elim, arith}
+use Rattle.std.proofs.Common.{◌≡◌, ℕ, ◌-◌, Bool, true, false, ◌&&◌, leb, ltb, List, length, get_or, replicate, ℤ, pos, sym, refl, ap, ◌∙◌, ⊎_elim, arith}
 use Rattle.std.proofs.lemmas.Int.{ints}
 use Rattle.std.proofs.lemmas.List.{get_or-replicate, get_or_past}
 use Rattle.std.proofs.lemmas.Bool.{cases_lt, lt-leb, le-ltb}
-use Rattle.units.specs.Sums.{total, when}
+use Rattle.units.specs.Sums.{when}
 use Rattle.units.proofs.Totals.{total_ext, total_zero}
 use Rattle.register.specs.Contents.{Network}
-use Rattle.register.specs.Fields.{factor}
-use Rattle.grid.specs.References.{point_at, dna_at, point_feeds, dna_feeds}
+use Rattle.grid.specs.References.{dna_at, dna_feeds}
 use Rattle.interval.specs.Figures.{Figures, sent_at, taken_at}
 use Rattle.transfers.specs.Sums.{Eight}
-use Rattle.assets.specs.Assets.{Side, energy, at_own, side, senders, takers, above_0, below_0, worked_flows}
+use Rattle.assets.specs.Assets.{energy, at_own, side, senders, takers, above_0, below_0, worked_flows}
 use Rattle.assets.specs.Feeds.{Adds, Fed, points_side}
 use Rattle.assets.specs.Work.{flows_from, found}
 use Rattle.assets.specs.declared.feeds.Feeds.{Feeds}

@@ -1,13 +1,12 @@
 -- The larger side, and what is estimated from it.
-use Rattle.std.proofs.Common.{◌≡◌, ℕ, zero, suc, ◌+◌, ◌-◌, ◌*◌, ◌/◌, ◌<◌, ◌≤◌, Bool, true, false, cond, eqb, ℤ, pos, ◌-ℤ◌, ◌*ℤ◌, neg_ℤ, nat_abs, ◌≤ℤ◌, ◌<ℤ◌, sym, refl, ap, ◌∙◌, subst, ⊎_elim, mod-lt, mul-pos, div-add-mod', zero-mul, arith, lit<}
+use Rattle.std.proofs.Common.{◌≡◌, ℕ, zero, suc, ◌+◌, ◌-◌, ◌*◌, ◌/◌, ◌<◌, ◌≤◌, Bool, true, false, cond, ℤ, pos, ◌-ℤ◌, ◌*ℤ◌, neg_ℤ, nat_abs, ◌≤ℤ◌, ◌<ℤ◌, sym, refl, ap, ◌∙◌, subst, ⊎_elim, mod-lt, mul-pos, div-add-mod', zero-mul, arith}
 use native.Mathlib.Nat.{zero-div}
 use lib.IntN.{*ℤ_comm}
 use lib.Signed.{lt_z}
 use borrow.Author.Differences.{ints}
 use Rattle.std.proofs.lemmas.Bool.{eq-eqb, ne_eqb, lt-ltb, cond-true, cond-false, cases_lt}
 use Rattle.units.specs.Floor.{floor}
-use Rattle.units.proofs.Floors.{floor_le, floor_next, floor_bound}
-use Rattle.units.proofs.Fits.{product_size}
+use Rattle.units.proofs.Floors.{floor_le, floor_next}
 use Rattle.assets.specs.Assets.{Side, energy, at_own, at_difference, surplus, larger, gross, loss_at, size_at, flow_at}
 use Rattle.assets.specs.Laws.{Estimated}
 use Rattle.assets.proofs.Sizes.{Sized}

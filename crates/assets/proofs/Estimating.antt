@@ -1,8 +1,8 @@
 -- One asset, where all assets upstream are worked.
-use Rattle.std.proofs.Common.{◌≡◌, ℕ, ◌+◌, ◌<◌, ◌≤◌, length, get_or, ℤ, pos, nat_abs, sym, ap, ◌∙◌, subst, arith}
+use Rattle.std.proofs.Common.{◌≡◌, ℕ, ◌+◌, ◌<◌, ◌≤◌, length, get_or, pos, nat_abs, sym, ap, ◌∙◌, subst, arith}
 use Rattle.register.specs.Contents.{Network}
 use Rattle.grid.specs.Checks.{of_checked}
-use Rattle.grid.specs.References.{Holds, dna_at}
+use Rattle.grid.specs.References.{dna_at}
 use Rattle.grid.specs.declared.checked.Checked.{Checked}
 use Rattle.grid.proofs.Counts.{points_count, dnas_count}
 use Rattle.grid.proofs.Places.{grid_holds}
@@ -10,7 +10,7 @@ use Rattle.interval.specs.Figures.{Figures, sent_at, taken_at}
 use Rattle.interval.specs.declared.interval.Interval.{Interval}
 use Rattle.transfers.specs.Held.{fig_of}
 use Rattle.transfers.proofs.Bounds.{sent_small, taken_small}
-use Rattle.assets.specs.Assets.{Side, energy, at_own, senders, takers, above_0, below_0, flow_at, loss_at, dna_flow, dna_loss}
+use Rattle.assets.specs.Assets.{Side, senders, takers, above_0, below_0, flow_at, loss_at, dna_flow, dna_loss}
 use Rattle.assets.specs.Balances.{weighed, Sound, loss_of, flow_of}
 use Rattle.assets.specs.Feeds.{Fed, Limited}
 use Rattle.assets.specs.Work.{flows_from}
@@ -18,7 +18,7 @@ use Rattle.assets.specs.declared.balance.Balance.{Balance}
 use Rattle.assets.specs.declared.feeds.Sides.{Sides}
 use Rattle.assets.proofs.Sizes.{Sized, side_sized, asset_sized, larger_difference}
 use Rattle.assets.proofs.Feeding.{limited}
-use Rattle.assets.proofs.Passing.{above_size, below_size, dna_is, dna_entered}
+use Rattle.assets.proofs.Passing.{above_size, below_size, dna_entered}
 use Rattle.assets.proofs.Weighing.{balance, balance_sound, flow_weighed, loss_weighed}
 use Rattle.assets.proofs.Worked.{flow_is, loss_is}
 

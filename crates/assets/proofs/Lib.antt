@@ -7,3 +7,4 @@ pub mod Weighing
 pub mod Passing
 pub mod Beginning
 pub mod Estimating
+pub mod Whole

@@ -1,5 +1,5 @@
 -- How large the sides of an asset can be, and the sum of differences over a side.
-use Rattle.std.proofs.Common.{◌≡◌, ℕ, ◌+◌, ◌*◌, ◌<◌, ◌≤◌, Bool, true, false, cond, length, ℤ, pos, ◌+ℤ◌, ◌-ℤ◌, ◌*ℤ◌, sym, refl, ap, ◌∙◌, ap₂, mul-le-mul, mul-le-mul_left, arith}
+use Rattle.std.proofs.Common.{◌≡◌, ℕ, ◌+◌, ◌*◌, ◌<◌, ◌≤◌, Bool, true, false, cond, length, pos, ◌+ℤ◌, ◌-ℤ◌, ◌*ℤ◌, refl, ap, ◌∙◌, ap₂, mul-le-mul_left, arith}
 use lib.Signed.{lt_z}
 use borrow.Author.Differences.{ints}
 use Rattle.units.specs.Sums.{total, sum, tally, when}
@@ -62,7 +62,10 @@ pub record Sized (s : Side) (most : ℕ) : Type 0 where
   pub few : kwh ≤ most
   pub light : node ≤ 18000 * kwh
 
-module _ (net : Network) (h : Holds net) (at_point at_asset : ℕ → ℕ) (points : (i : ℕ) → at_point i ≤ 200000) (assets : (m : ℕ) → at_asset m ≤ 200000) (d : ℕ) where
+pub wider : (s : Side) (m n : ℕ) → m ≤ n → Sized s m → Sized s n
+wider s m n more is = record { kwh = is.kwh; node = is.node; energy_is = is.energy_is; own_is = is.own_is; few = omega (arith, is.few); light = is.light }
+
+module _ (net : Network) (h : Holds net) (at_point at_asset : ℕ → ℕ) (d : ℕ) where
   abbrev of_points : (ℕ → ℕ) → ℕ
   of_points f = counted (length net.points) (point_feeds net d) f
 
@@ -85,9 +88,14 @@ module _ (net : Network) (h : Holds net) (at_point at_asset : ℕ → ℕ) (poin
     );
   }
 
+  -- whatever the energies are
+  pub some_size : Sized (side net at_point at_asset d) (of_points at_point + of_assets at_asset)
+  some_size = sized (of_points at_point + of_assets at_asset) (omega arith)
+
+module _ (net : Network) (h : Holds net) (at_point at_asset : ℕ → ℕ) (points : (i : ℕ) → at_point i ≤ 200000) (assets : (m : ℕ) → at_asset m ≤ 200000) (d : ℕ) where
   -- of any number, where so many points and assets are entered at most
   pub side_sized : length net.points ≤ 128 → length net.dnas ≤ 8 → Sized (side net at_point at_asset d) 27200000
-  side_sized p a = sized 27200000 (omega (
+  side_sized p a = sized net h at_point at_asset d 27200000 (omega (
     arith,
     counted_few (length net.points) (point_feeds net d) at_point 200000 points,
     counted_few (length net.dnas) (dna_feeds net d) at_asset 200000 assets,
@@ -95,7 +103,7 @@ module _ (net : Network) (h : Holds net) (at_point at_asset : ℕ → ℕ) (poin
 
   -- of an asset that is entered
   pub asset_sized : d < length net.dnas → Sized (side net at_point at_asset d) 3200000
-  asset_sized low = sized 3200000 (omega (
+  asset_sized low = sized net h at_point at_asset d 3200000 (omega (
     arith,
     counted_tally (length net.points) (point_feeds net d) at_point 200000 points,
     counted_tally (length net.dnas) (dna_feeds net d) at_asset 200000 assets,

@@ -1,5 +1,5 @@
 -- Designated network assets: the loss that each is estimated to have, and the flow at its downstream boundary.
-use Rattle.std.specs.Prelude.{ℕ, zero, suc, ◌-◌, ◌*◌, ◌/◌, Bool, true, false, cond, List, length, ℤ, pos, negsuc, ◌+ℤ◌, ◌-ℤ◌, ◌*ℤ◌, neg_ℤ, Some, None, Option, ◌==◌, int_lt, nat_le, nat_lt, unsigned_abs}
+use Rattle.std.specs.Prelude.{ℕ, zero, suc, ◌-◌, ◌*◌, ◌/◌, true, false, cond, List, length, ℤ, pos, negsuc, ◌+ℤ◌, ◌-ℤ◌, ◌*ℤ◌, neg_ℤ, Some, None, Option, ◌==◌, int_lt, nat_le, nat_lt, unsigned_abs}
 use Rattle.units.specs.Sums.{total, when, tabulate}
 use Rattle.units.specs.Refusals.{Answer, done, turned_down, refused}
 use Rattle.units.specs.declared.refusal.Layer.TheVariants.{Network as InNetwork}

@@ -1,4 +1,4 @@
-use Rattle.std.proofs.Common.{◌≡◌, ℕ, ◌*◌, ◌<◌, ◌≤◌, ℤ, pos, ◌-ℤ◌, ◌*ℤ◌, nat_abs, ap, ◌∙◌, ap₂, arith, lit<, w64, SFits, to_z, of_z}
+use Rattle.std.proofs.Common.{◌≡◌, ◌*◌, ◌<◌, ◌≤◌, ℤ, ◌*ℤ◌, nat_abs, ap, ◌∙◌, ap₂, arith, lit<, w64, SFits, to_z, of_z}
 use Rattle.std.specs.NonZero.{non_zero_u32_get}
 use Rattle.units.specs.Floor.{floor}
 use Rattle.units.proofs.Fits.{small_back, product_fits, product_back}

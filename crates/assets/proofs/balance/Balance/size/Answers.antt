@@ -1,6 +1,5 @@
-use Rattle.std.proofs.Common.{◌≡◌, ℕ, ◌*◌, ◌/◌, ◌<◌, ◌≤◌, nat_abs, ap, ◌∙◌, ap₂, mul-pos, div-le_self, arith}
+use Rattle.std.proofs.Common.{◌*◌, ◌/◌, nat_abs, ap, ◌∙◌, ap₂, mul-pos, div-le_self, arith}
 use Rattle.units.proofs.Fits.{small_back}
-use Rattle.assets.specs.Balances.{size_of}
 use Rattle.assets.proofs.Balances.{gross_small, own_small, surplus_small, product_small}
 use Rattle.assets.proofs.balance.Balance.size.Goals as goal
 

@@ -1,4 +1,4 @@
-use Rattle.std.proofs.Common.{◌≡◌, ℕ, ◌<◌, ◌≤◌, get_or, sym, ap, ◌∙◌, arith}
+use Rattle.std.proofs.Common.{◌<◌, ◌≤◌, sym, arith}
 use Rattle.std.proofs.lemmas.List.{get_or-take}
 use Rattle.grid.specs.Checks.{of_checked}
 use Rattle.grid.proofs.Places.{grid_holds}

@@ -1,7 +1,6 @@
-use Rattle.std.proofs.Common.{◌≡◌, ℕ, ◌+◌, ◌*◌, ◌^◌, ◌<◌, ◌≤◌, ℤ, ◌*ℤ◌, nat_abs, refl, sym, ap, ◌∙◌, ap₂, arith, lit<, w32, w64, to_z, of_z}
+use Rattle.std.proofs.Common.{◌≡◌, ◌+◌, ◌*ℤ◌, nat_abs, refl, ap, ◌∙◌, ap₂, arith, lit<, w32, w64, to_z, of_z}
 use Rattle.std.proofs.lemmas.Int.{to_z-of_z}
 use Rattle.units.proofs.Fits.{small_back, product_fits, product_back, product_size}
-use Rattle.grid.specs.Checks.{of_checked}
 use Rattle.interval.specs.Figures.{price}
 use Rattle.transfers.specs.Held.{fig_of}
 use Rattle.assets.proofs.Passing.{dna_is, dna_factor, dna_used}

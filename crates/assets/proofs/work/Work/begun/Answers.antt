@@ -1,4 +1,4 @@
-use Rattle.std.proofs.Common.{◌≤◌, nat_abs, sym, ap, arith}
+use Rattle.std.proofs.Common.{nat_abs, sym, ap, arith}
 use Rattle.grid.specs.Checks.{of_checked}
 use Rattle.grid.proofs.Counts.{points_count, dnas_count}
 use Rattle.transfers.specs.Held.{fig_of}

@@ -1,4 +1,4 @@
-use Rattle.std.proofs.Common.{◌≡◌, ◌+◌, ◌^◌, ◌<◌, ◌≤◌, nat_abs, set, sym, ap, ◌∙◌, arith, w32, w64, SFits, to_z, of_z}
+use Rattle.std.proofs.Common.{◌≡◌, ◌^◌, ◌<◌, nat_abs, set, ap, ◌∙◌, arith, w32, w64, SFits, to_z, of_z}
 use Rattle.std.proofs.lemmas.Int.{ints, to_z-of_z}
 use Rattle.units.proofs.Fits.{small_back}
 use Rattle.assets.proofs.Passing.{dna_is, dna_named, dna_factor, above_is, below_is, grown_is}
