@@ -4,6 +4,7 @@
 use register::entry::{Corridor, Dna, Link, Point, Region};
 use register::register::Register;
 use std::io;
+use std::process::ExitCode;
 
 mod desk;
 mod report;
@@ -57,12 +58,12 @@ fn settle(rt: &HostRuntime) -> anyhow::Result<()> {
     Ok(())
 }
 
-fn main(rt: HostRuntime) -> anyhow::Result<()> {
+fn main(rt: HostRuntime) -> io::Result<ExitCode> {
     match settle(&rt) {
-        Ok(()) => Ok(()),
+        Ok(()) => Ok(ExitCode::SUCCESS),
         Err(e) => {
             eprintln!(rt; "settle: {e}")?;
-            Err(e)
+            Ok(ExitCode::FAILURE)
         }
     }
 }
