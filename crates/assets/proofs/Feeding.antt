@@ -97,11 +97,11 @@ module _ (g : Checked) (i : ℕ) (low : i < g.grid.point_count) where
   -- the sums with one point more
   pub points_more : (at_point : ℕ → ℕ) (x x' : Feeds) (e own : ℕ) → Adds (points_side (of_checked g) at_point i) x
       → e ≡ at_point i → own ≡ factor read → Grown x read.dna e own x' → Adds (points_side (of_checked g) at_point (i + 1)) x'
-  points_more at_point x x' e own before e-is own_is grown =
+  points_more at_point x x' e own before e_is own_is grown =
       adds_same (and_one (points_side (of_checked g) at_point i) read.dna e own) (points_side (of_checked g) at_point (i + 1)) x' (λ k _. same energy k) (λ k _. same at_own k)
       (adds_one (points_side (of_checked g) at_point i) x x' read.dna e own before point_named grown)
     where
       same : (weight : ℕ → ℕ → ℤ) (k : ℕ) → and_one (points_side (of_checked g) at_point i) read.dna e own k weight ≡ points_side (of_checked g) at_point (i + 1) k weight
       same weight k =
-          (λ t. points_side (of_checked g) at_point i k weight +ℤ when (eqb (point_read g.grid i low t).dna (k + 1)) (weight (e-is t) ((own_is ∙ ap factor (point_read g.grid i low)) t)))
+          (λ t. points_side (of_checked g) at_point i k weight +ℤ when (eqb (point_read g.grid i low t).dna (k + 1)) (weight (e_is t) ((own_is ∙ ap factor (point_read g.grid i low)) t)))
           ∙ sym (total_more i (λ j. when (point_feeds (of_checked g) k j) (weight (at_point j) (factor (point_at (of_checked g) j)))))

@@ -5,9 +5,9 @@ use Rattle.assets.specs.declared.balance.Balance.{Balance}
 
 -- the larger of two sides, each by its energy and the same at its own factors
 abbrev pub weighed : ℤ → ℤ → ℤ → ℤ → Balance
-weighed sent sent-own taken taken_own =
+weighed sent sent_own taken taken_own =
     cond (int_lt taken sent)
-    (record { surplus = sent -ℤ taken; gross = sent; at_own = sent-own })
+    (record { surplus = sent -ℤ taken; gross = sent; at_own = sent_own })
     (record { surplus = sent -ℤ taken; gross = taken; at_own = taken_own })
 
 -- how large a balance can be

@@ -3,7 +3,7 @@ ghost use Rattle.std.specs.Result.{result_map_both};
 ghost use Rattle.units.specs.Refusals.{answer};
 ghost use Rattle.grid.specs.Views.{of_grid};
 ghost use Rattle.interval.specs.Ranges.{lowest_price, highest_price, lowest_flow, highest_flow};
-ghost use Rattle.interval.specs.Words.{figures, flow_kind, price_kind, read as page-read};
+ghost use Rattle.interval.specs.Words.{figures, flow_kind, price_kind, read as page_read};
 ghost use Rattle.interval.specs.Spelling.{Spells, Unspelled};
 ghost use Rattle.interval.specs.Views.{of_interval};
 ghost use Rattle.interval.specs.Steps.{FiguresOrFault, Reached, ReadsOn, ReadFigures};
@@ -60,7 +60,7 @@ fn read_flows(grid: &Grid, ws: &[u32]) -> Result<[i32; 8], Refusal>
 
 // The interval that the words begin with, and how many words it has; or the first refusal, word by word.
 pub fn read(grid: &Grid, words: &[u32]) -> Result<(Interval, usize), Refusal>
-    ensures answers { answer (result_map_both (λ t. t.1) (λ e. e) result) ≡ page-read (of_grid grid.now) words.now }
+    ensures answers { answer (result_map_both (λ t. t.1) (λ e. e) result) ≡ page_read (of_grid grid.now) words.now }
     ensures says { IfOk result (λ t. of_interval grid.now t.0 ≡ figures (of_grid grid.now) (take t.1 words.now)) }
     ensures spelled { MatchResult result (λ t. Spells (of_grid grid.now) (take t.1 words.now) (of_interval grid.now t.0))
         (λ _. Unspelled (of_grid grid.now) words.now) }

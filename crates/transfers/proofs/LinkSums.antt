@@ -92,10 +92,10 @@ module _ (g : Checked) (m : Interval) (loss : Losses) (b : Bounded loss) (l : �
 -- a link's residue, from what its two ends are worth
 pub residue_is : (g : Checked) (m : Interval) (loss : Losses) (l : ℕ) (c : Carried) → Carries (of_checked g) (fig_of g m) loss l c → (x y u v : ℤ)
     → u ≡ c.exit → v ≡ c.entry → x ≡ u *ℤ price (fig_of g m) c.importer → y ≡ v *ℤ price (fig_of g m) c.exporter → x -ℤ y ≡ link_residue (of_checked g) (fig_of g m) loss l
-residue_is g m loss l c is x y u v u-is v-is x_is y-is =
+residue_is g m loss l c is x y u v u_is v_is x_is y_is =
     ap₂ (λ s t. s -ℤ t)
-    (x_is ∙ *ℤ_comm u (price (fig_of g m) c.importer) ∙ (λ i. price (fig_of g m) (is.importer_is i) *ℤ (u-is ∙ is.exit_is) i))
-    (y-is ∙ *ℤ_comm v (price (fig_of g m) c.exporter) ∙ (λ i. price (fig_of g m) (is.exporter_is i) *ℤ (v-is ∙ is.entry_is) i))
+    (x_is ∙ *ℤ_comm u (price (fig_of g m) c.importer) ∙ (λ i. price (fig_of g m) (is.importer_is i) *ℤ (u_is ∙ is.exit_is) i))
+    (y_is ∙ *ℤ_comm v (price (fig_of g m) c.exporter) ∙ (λ i. price (fig_of g m) (is.exporter_is i) *ℤ (v_is ∙ is.entry_is) i))
 
 -- a turn that adds a value of link l at its corridor
 module _ (g : Checked) (v : ℕ → ℤ) (l : ℕ) (low : l < g.grid.link_count) (z : ℤ) (z_is : z ≡ v l) (xs : List ℤ)

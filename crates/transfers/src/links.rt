@@ -2,7 +2,7 @@
 ghost use Rattle.std.specs.Prelude.{◌≡◌, ◌+◌, ◌*◌, ◌<◌, ◌≤◌, length, pos, ◌-ℤ◌, ◌≤ℤ◌, IfSome, if◌then◌else◌, Some, None, nat_lt, slice_index_or, unsigned_abs};
 ghost use Rattle.units.specs.Sums.{total, tabulate};
 ghost use Rattle.grid.specs.Checks.{of_checked};
-ghost use Rattle.transfers.specs.Carries.{carried as carried-by, Carries, SumsOf};
+ghost use Rattle.transfers.specs.Carries.{carried as carried_by, Carries, SumsOf};
 ghost use Rattle.transfers.specs.Held.{fig_of};
 ghost use Rattle.transfers.specs.Links.{net_export, link_residue, corridor_residue, corridor_flow, lost, way, owed};
 
@@ -79,7 +79,7 @@ impl Carried {
         book: &B,
         link: usize,
     ) -> Option<Carried>
-        ensures value { result ≡ (if nat_lt link (length (of_checked grid.now).links) then Some (carried-by (of_checked grid.now) (fig_of grid.now metered.now) (B.LossBook.meaning book.now) link) else None) }
+        ensures value { result ≡ (if nat_lt link (length (of_checked grid.now).links) then Some (carried_by (of_checked grid.now) (fig_of grid.now metered.now) (B.LossBook.meaning book.now) link) else None) }
         ensures loss { IfSome result (λ c. c.entry -ℤ c.exit ≡ pos (10000 * lost (of_checked grid.now) (fig_of grid.now metered.now) (B.LossBook.meaning book.now) link)) }
         ensures outward { IfSome result (λ c. pos 0 ≤ℤ c.exit) }
     {

@@ -1,4 +1,4 @@
--- The steps of a loop that counts up, for `tally` and `every`, and what `first-failure` finds.
+-- The steps of a loop that counts up, for `tally` and `every`, and what `first_failure` finds.
 use Rattle.std.proofs.Common.{◌≡◌, ℕ, zero, suc, ◌+◌, ◌<◌, Bool, true, false, cond, Some, None, Option, refl, ap, ◌∙◌, subst, inl, inr, ⊎_elim, add-zero, add-one, arith}
 use Rattle.std.proofs.lemmas.Bool.{both_ways, cases_eq, cases_lt, cases_order, and_left, and_right, and_from}
 use Rattle.units.specs.Laws.{Finds}
@@ -27,7 +27,7 @@ pub tally-sum : (n : ℕ) (test : ℕ → Bool) → tally n test ≡ sum n (λ i
 tally-sum zero test = refl
 tally-sum (suc n) test = ap (λ (k : ℕ). k + cond (test n) 1 0) (tally-sum n test)
 
--- ---- first-failure
+-- ---- first_failure
 
 pub first_failure_finds : (n : ℕ) (test : ℕ → Bool) → Finds n test (first_failure n test)
 first_failure_finds zero test = λ k l. absurd (omega arith)

@@ -94,7 +94,7 @@ module _ (d : ℕ) (p : 0 < d) where
       let high = floor_below (pos 1) (negsuc a *ℤ pos q) (omega (arith, ints)) in
       omega (arith, ints)
 
--- floor z d is read as `ints` reads an integer, for `omega (arith, ints, floor-is)`; at a numeral d that decides what is linear
+-- floor z d is read as `ints` reads an integer, for `omega (arith, ints, floor_is)`; at a numeral d that decides what is linear
 pub floor_is : (z : ℤ) (d : ℕ) → 0 < d → (up (floor z d) * d + down z ≤ up z + down (floor z d) * d) × (up z + down (floor z d) * d < down z + up (floor z d) * d + d)
 floor_is z d p = (omega (arith, ints, floor_le d p z), omega (arith, ints, floor_next d p z))
 
