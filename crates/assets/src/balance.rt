@@ -1,5 +1,5 @@
 // An asset's two sides against each other.
-ghost use Rattle.std.specs.Prelude.{◌≡◌, ◌*◌, ◌<◌, ◌≤◌, get_or, pos, ◌-ℤ◌, ◌*ℤ◌, slice_index_or, unsigned_abs};
+ghost use Rattle.std.specs.Prelude.{◌≡◌, ◌*◌, ◌<◌, ◌≤◌, pos, ◌-ℤ◌, ◌*ℤ◌, slice_index_or, unsigned_abs};
 ghost use Rattle.assets.specs.Balances.{Sound, weighed, loss_of, size_of, flow_of};
 ghost use Rattle.assets.specs.Feeds.{Limited};
 
@@ -21,7 +21,7 @@ impl Balance {
         requires low { asset < 8 }
         requires sent { Limited sides.now.senders }
         requires taken { Limited sides.now.takers }
-        ensures { result ≡ weighed (slice_index_or sides.now.senders.energy asset (pos 0)) (get_or sides.now.senders.at_own asset (pos 0)) (slice_index_or sides.now.takers.energy asset (pos 0)) (get_or sides.now.takers.at_own asset (pos 0)) }
+        ensures { result ≡ weighed (slice_index_or sides.now.senders.energy asset (pos 0)) (slice_index_or sides.now.senders.at_own asset (pos 0)) (slice_index_or sides.now.takers.energy asset (pos 0)) (slice_index_or sides.now.takers.at_own asset (pos 0)) }
     {
         let sent = sides.senders.energy[asset];
         let taken = sides.takers.energy[asset];
