@@ -15,10 +15,7 @@ use Rattle.assets.specs.Work.{flows_from, found}
 use Rattle.assets.specs.declared.feeds.Feeds.{Feeds}
 use Rattle.assets.specs.declared.feeds.Sides.{Sides}
 use Rattle.assets.proofs.Feeding.{adds_same}
-
-when_zero : (b : Bool) → when b (pos 0) ≡ pos 0
-when_zero true = refl
-when_zero false = refl
+use Rattle.assets.proofs.Worked.{when_zero}
 
 and_false : (b : Bool) → (b && false) ≡ false
 and_false true = refl

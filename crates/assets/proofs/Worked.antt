@@ -12,6 +12,10 @@ use Rattle.interval.specs.Figures.{Figures, sent_at, taken_at}
 use Rattle.assets.specs.Work.{flows_from}
 use Rattle.assets.specs.Assets.{above_0, below_0, side, senders, takers, loss_at, flow_at, loss_with, flow_with, worked_flows, dna_flow, dna_loss, flow_too_large}
 
+pub when_zero : (b : Bool) → when b (pos 0) ≡ pos 0
+when_zero true = refl
+when_zero false = refl
+
 -- another summand at one place
 total_change : (n i : ℕ) (f g : ℕ → ℤ) → i < n → ((k : ℕ) → k < n → (i ≡ k → ⊥) → g k ≡ f k) → total n g ≡ total n f +ℤ (g i -ℤ f i)
 total_change n i f g l h = omega (arith, ints, total_sub n g f, total_only n i (λ k. g k -ℤ f k) l (λ k p d. omega (arith, ints, h k p d)))
@@ -113,15 +117,11 @@ module _ (net : Network) (fig : Figures) where
       elsewhere : (m : ℕ) → m < length net.dnas → (d ≡ m → ⊥) → new m ≡ old m
       elsewhere m l other = ap (λ z. when (dna_feeds net k m) (weight (part z) (dna_at net m).boundary)) (one_more d m low ∙ cond-false _ _ _ (ne_eqb m d (λ e. other (sym e))))
 
-      zeros : (b : Bool) → when b (pos 0) ≡ pos 0
-      zeros true = refl
-      zeros false = refl
-
       before : old d ≡ pos 0
       before =
           ap (λ z. when (dna_feeds net k d) (weight (part z) (dna_at net d).boundary)) (unworked (d + 1) d (omega arith) (omega arith))
           ∙ ap (λ n. when (dna_feeds net k d) (weight n (dna_at net d).boundary)) none
-          ∙ ap (when (dna_feeds net k d)) (nothing (dna_at net d).boundary) ∙ zeros (dna_feeds net k d)
+          ∙ ap (when (dna_feeds net k d)) (nothing (dna_at net d).boundary) ∙ when_zero (dna_feeds net k d)
 
       after : new d ≡ when (dna_feeds net k d) (weight (part (flow_with net fig (flows_from net fig (d + 1)) d)) (dna_at net d).boundary)
       after = ap (λ z. when (dna_feeds net k d) (weight (part z) (dna_at net d).boundary)) (one_more d d low ∙ cond-true _ _ _ (eq-eqb d d refl))
