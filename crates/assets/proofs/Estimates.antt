@@ -1,5 +1,5 @@
 -- The larger side, and what is estimated from it.
-use Rattle.std.proofs.Common.{◌≡◌, ℕ, zero, suc, ◌+◌, ◌-◌, ◌*◌, ◌/◌, ◌<◌, ◌≤◌, Bool, true, false, cond, ℤ, pos, ◌-ℤ◌, ◌*ℤ◌, neg_ℤ, nat_abs, ◌≤ℤ◌, ◌<ℤ◌, sym, refl, ap, ◌∙◌, subst, ⊎_elim, mod-lt, mul-pos, div-add-mod', zero-mul, arith}
+use Rattle.std.proofs.Common.{◌≡◌, ℕ, zero, suc, ◌+◌, ◌-◌, ◌*◌, ◌/◌, ◌<◌, ◌≤◌, Bool, true, false, cond, ℤ, pos, ◌-ℤ◌, ◌*ℤ◌, neg_ℤ, nat_abs, ◌≤ℤ◌, ◌<ℤ◌, refl, ap, ◌∙◌, ⊎_elim, mod-lt, mul-pos, div-add-mod', zero-mul, arith}
 use native.Mathlib.Nat.{zero-div}
 use lib.IntN.{*ℤ_comm}
 use lib.Signed.{lt_z}
@@ -9,52 +9,42 @@ use Rattle.units.specs.Floor.{floor}
 use Rattle.units.proofs.Floors.{floor_le, floor_next}
 use Rattle.assets.specs.Assets.{Side, energy, at_own, at_difference, surplus, larger, gross, loss_at, size_at, flow_at}
 use Rattle.assets.specs.Laws.{Estimated}
-use Rattle.assets.proofs.Sizes.{Sized}
 
 not_above : (n : ℕ) → lt_z (pos 0) (neg_ℤ (pos n)) ≡ false
 not_above zero = refl
 not_above (suc n) = refl
 
-module _ (s t : Side) (most : ℕ) (S : Sized s most) (T : Sized t most) where
-  pub surplus_is : surplus s t ≡ pos S.kwh -ℤ pos T.kwh
-  surplus_is = λ i. S.energy_is i -ℤ T.energy_is i
+module _ (s t : Side) (sent taken : ℕ) (S : s energy ≡ pos sent) (T : t energy ≡ pos taken) where
+  surplus_is : surplus s t ≡ pos sent -ℤ pos taken
+  surplus_is = λ i. S i -ℤ T i
 
-  out : T.kwh < S.kwh → lt_z (pos 0) (surplus s t) ≡ true
+  out : taken < sent → lt_z (pos 0) (surplus s t) ≡ true
   out l =
-      let is : surplus s t ≡ pos (S.kwh - T.kwh) = surplus_is ∙ omega (arith, ints) in
-      ap (lt_z (pos 0)) is ∙ lt-ltb 0 (S.kwh - T.kwh) (omega arith)
+      let is : surplus s t ≡ pos (sent - taken) = surplus_is ∙ omega (arith, ints) in
+      ap (lt_z (pos 0)) is ∙ lt-ltb 0 (sent - taken) (omega arith)
 
-  inward : S.kwh ≤ T.kwh → lt_z (pos 0) (surplus s t) ≡ false
+  inward : sent ≤ taken → lt_z (pos 0) (surplus s t) ≡ false
   inward l =
-      let is : surplus s t ≡ neg_ℤ (pos (T.kwh - S.kwh)) = surplus_is ∙ omega (arith, ints) in
-      ap (lt_z (pos 0)) is ∙ not_above (T.kwh - S.kwh)
+      let is : surplus s t ≡ neg_ℤ (pos (taken - sent)) = surplus_is ∙ omega (arith, ints) in
+      ap (lt_z (pos 0)) is ∙ not_above (taken - sent)
 
-  pub sent_more : T.kwh < S.kwh → larger s t ≡ s
+  pub sent_more : taken < sent → larger s t ≡ s
   sent_more l = cond-true _ _ _ (out l)
 
-  pub taken_more : S.kwh ≤ T.kwh → larger s t ≡ t
+  pub taken_more : sent ≤ taken → larger s t ≡ t
   taken_more l = cond-false _ _ _ (inward l)
 
-  pub larger_sized : Sized (larger s t) most
-  larger_sized = ⊎_elim (λ l. subst (λ x. Sized x most) (sym (sent_more l)) S) (λ l. subst (λ x. Sized x most) (sym (taken_more l)) T) (cases_lt T.kwh S.kwh)
-
-  pub gross_is : gross s t ≡ larger_sized.kwh
-  gross_is = ap nat_abs larger_sized.energy_is
-
-  pub own_size : nat_abs (larger s t at_own) ≤ 18000 * gross s t
-  own_size = omega (arith, larger_sized.light, gross_is, ap nat_abs larger_sized.own_is)
-
-  pub within : nat_abs (surplus s t) ≤ gross s t
+  within : nat_abs (surplus s t) ≤ gross s t
   within = ⊎_elim
-      (λ l. let g = ap (λ x. nat_abs (x energy)) (sent_more l) ∙ ap nat_abs S.energy_is in omega (arith, ints, surplus_is))
-      (λ l. let g = ap (λ x. nat_abs (x energy)) (taken_more l) ∙ ap nat_abs T.energy_is in omega (arith, ints, surplus_is))
-      (cases_lt T.kwh S.kwh)
+      (λ l. let g = ap (λ x. nat_abs (x energy)) (sent_more l) ∙ ap nat_abs S in omega (arith, ints, surplus_is))
+      (λ l. let g = ap (λ x. nat_abs (x energy)) (taken_more l) ∙ ap nat_abs T in omega (arith, ints, surplus_is))
+      (cases_lt taken sent)
 
   -- ---- the estimates
 
   module _ (b : ℕ) where
     -- without a surplus, whatever the division would give
-    no_loss : nat_abs (surplus s t) ≡ 0 → loss_at s t b ≡ pos 0
+    pub no_loss : nat_abs (surplus s t) ≡ 0 → loss_at s t b ≡ pos 0
     no_loss e = cond-true _ _ _ (eq-eqb _ _ e)
 
     pub loss_floor : (nat_abs (surplus s t) ≡ 0 → ⊥) → loss_at s t b ≡ floor (surplus s t *ℤ larger s t (at_difference b)) (gross s t)

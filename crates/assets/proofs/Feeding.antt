@@ -1,107 +1,88 @@
--- Turns of the loops that add up what feeds each asset.
-use Rattle.std.proofs.Common.{◌≡◌, ℕ, ◌+◌, ◌-◌, ◌<◌, ◌≤◌, eqb, List, length, get_or, ℤ, pos, ◌+ℤ◌, nat_abs, sym, ap, ◌∙◌, ⊎_elim, arith}
+-- Turns of the loops that add up what feeds an asset.
+use Rattle.std.proofs.Common.{◌≡◌, ℕ, ◌+◌, ◌*◌, ◌<◌, ◌≤◌, Bool, true, false, length, ℤ, pos, ◌+ℤ◌, refl, ap, ap₂, arith}
 use borrow.Author.Differences.{ints}
-use Rattle.std.proofs.lemmas.Bool.{cases_eq, eq-eqb, ne_eqb, cond-true, cond-false}
-use Rattle.units.specs.Sums.{when}
+use Rattle.units.specs.Sums.{total, when}
 use Rattle.units.proofs.Totals.{total_more}
+use Rattle.register.specs.Contents.{Network}
 use Rattle.register.specs.Fields.{factor}
-use Rattle.register.specs.declared.entry.Point.{Point}
-use Rattle.grid.specs.Checks.{of_checked}
-use Rattle.grid.specs.References.{point_at, point_feeds}
-use Rattle.grid.specs.declared.checked.Checked.{Checked}
-use Rattle.grid.proofs.Counts.{points_count, dnas_count}
-use Rattle.grid.proofs.Places.{grid_holds, point_read, factor_high}
-use Rattle.grid.proofs.References.{point_entry}
-use Rattle.transfers.specs.Sums.{added, Eight}
-use Rattle.transfers.proofs.Added.{get_or-added, length-added}
-use Rattle.assets.specs.Assets.{Side, energy, at_own}
-use Rattle.assets.specs.Feeds.{fed, Grown, Limited, Adds, and_one, points_side}
-use Rattle.assets.specs.declared.feeds.Feeds.{Feeds}
-use Rattle.assets.proofs.Sizes.{Sized}
+use Rattle.grid.specs.References.{point_at, dna_at, point_feeds, dna_feeds}
+use Rattle.grid.proofs.Places.{grid_holds}
+use Rattle.interval.specs.Metered.{network_of}
+use Rattle.interval.specs.declared.metered.Metered.{Metered}
+use Rattle.assets.specs.Assets.{Side, energy, at_own, side}
+use Rattle.assets.specs.Sides.{Added, Feeds, and_more, from_points, from_assets}
+use Rattle.assets.specs.declared.feed.Feed.{Feed}
+use Rattle.assets.proofs.Sizes.{counted, total_counted, points_room, assets_room}
 
--- ---- one addition
+module _ (base : Side) (test : ℕ → Bool) (e own : ℕ → ℕ) (i : ℕ) (x : Feed) (is : Feeds (and_more base test e own i) x) where
+  more : (weight : ℕ → ℕ → ℤ) (b : Bool) → test i ≡ b → and_more base test e own (i + 1) weight ≡ and_more base test e own i weight +ℤ when b (weight (e i) (own i))
+  more weight b t =
+      let step = total_more i (λ k. when (test k) (weight (e k) (own k))) in
+      let here = ap (λ c. when c (weight (e i) (own i))) t in
+      omega (arith, ints, step, here)
 
-same_test : (reference k : ℕ) → (reference ≡ 0 → ⊥) → eqb (reference - 1) k ≡ eqb reference (k + 1)
-same_test reference k some = ⊎_elim
-    (λ e. eq-eqb (reference - 1) k (omega arith) ∙ sym (eq-eqb reference (k + 1) e))
-    (λ d. ne_eqb (reference - 1) k (λ e. d (omega arith)) ∙ sym (ne_eqb reference (k + 1) d))
-    (cases_eq reference (k + 1))
-
-module _ (sums : List ℤ) (reference : ℕ) (z : ℤ) (slots : length sums ≡ 8) (named : reference ≤ 8) where
-  pub fed_slots : length (fed sums reference z) ≡ 8
-  fed_slots = ⊎_elim
-      (λ e. ap length (cond-true _ sums (added sums (reference - 1) z) (eq-eqb reference 0 e)) ∙ slots)
-      (λ d. ap length (cond-false _ sums (added sums (reference - 1) z) (ne_eqb reference 0 d)) ∙ length-added sums (reference - 1) z ∙ slots)
-      (cases_eq reference 0)
-
-  pub fed_at : (k : ℕ) → get_or (fed sums reference z) k (pos 0) ≡ get_or sums k (pos 0) +ℤ when (eqb reference (k + 1)) z
-  fed_at k = ⊎_elim
-      (λ e.
-      let none = ap (λ b. when b z) (ne_eqb reference (k + 1) (λ q. absurd (omega arith))) in
-      ap (λ xs. get_or xs k (pos 0)) (cond-true _ sums (added sums (reference - 1) z) (eq-eqb reference 0 e)) ∙ omega (arith, ints))
-      (λ d.
-      ap (λ xs. get_or xs k (pos 0)) (cond-false _ sums (added sums (reference - 1) z) (ne_eqb reference 0 d))
-      ∙ get_or-added sums (reference - 1) z k (omega (arith, slots))
-      ∙ ap (λ b. get_or sums k (pos 0) +ℤ when b z) (same_test reference k d))
-      (cases_eq reference 0)
-
-module _ (f : ℕ → Side) (x x' : Feeds) (reference e own : ℕ) (before : Adds f x) (named : reference ≤ 8) (grown : Grown x reference e own x') where
-  pub adds_one : Adds (and_one f reference e own) x'
-  adds_one = record {
-    energy_is = one energy x.energy x'.energy before.energy_is grown.energy_grown;
-    own_is = one at_own x.at_own x'.at_own before.own_is grown.own_grown;
+  -- an energy that does not count
+  passed_over : test i ≡ false → Feeds (and_more base test e own (i + 1)) x
+  passed_over t = record {
+    energy_is = let m = more energy false t in omega (arith, ints, is.energy_is);
+    own_is = let m = more at_own false t in omega (arith, ints, is.own_is);
   }
-    where
-      one : (weight : ℕ → ℕ → ℤ) (xs xs' : List ℤ) → Eight (λ k. f k weight) xs → xs' ≡ fed xs reference (weight e own) → Eight (λ k. and_one f reference e own k weight) xs'
-      one weight xs xs' is more = (
-        ap length more ∙ fed_slots xs reference (weight e own) is.0 named,
-        λ k l. ap (λ ys. get_or ys k (pos 0)) more ∙ fed_at xs reference (weight e own) is.0 named k ∙ ap (λ z. z +ℤ when (eqb reference (k + 1)) (weight e own)) (is.1 k l),
-      )
 
--- ---- sums by another name, and their room
+  -- one that counts
+  one_added : test i ≡ true → (x' : Feed) (n f : ℕ) → n ≡ e i → f ≡ own i → Added x n f x' → Feeds (and_more base test e own (i + 1)) x'
+  one_added t x' n f n_is f_is added = record {
+    energy_is = let m = more energy true t in omega (arith, ints, is.energy_is, added.energy_more);
+    own_is =
+        let m = more at_own true t in
+        let product = ap₂ (λ p q. p * q) n_is f_is in
+        omega (arith, ints, is.own_is, added.own_more);
+  }
 
-pub adds_same : (f f' : ℕ → Side) (x : Feeds) → ((k : ℕ) → k < 8 → f k energy ≡ f' k energy) → ((k : ℕ) → k < 8 → f k at_own ≡ f' k at_own) → Adds f x → Adds f' x
-adds_same f f' x e o is = record {
-  energy_is = (is.energy_is.0, λ k l. is.energy_is.1 k l ∙ e k l);
-  own_is = (is.own_is.0, λ k l. is.own_is.1 k l ∙ o k l);
-}
+  -- room for it
+  room : test i ≡ true → (b : ℕ) → base energy ≡ pos b → b + counted (i + 1) test e ≤ 3200000 → x.energy + e i ≤ 3200000
+  room t b base_is few =
+      let m = more energy true t in
+      let all = total_counted (i + 1) test e in
+      omega (arith, ints, is.energy_is)
 
-pub limited : (f : ℕ → Side) (x : Feeds) → ((k : ℕ) → k < 8 → Sized (f k) 27200000) → Adds f x → Limited x
-limited f x sized is = record {
-  energy_slots = is.energy_is.0;
-  own_slots = is.own_is.0;
-  few = λ k l. omega (arith, ap nat_abs (is.energy_is.1 k l ∙ (sized k l).energy_is), (sized k l).few);
-  light = λ k l. omega (arith, ap nat_abs (is.own_is.1 k l ∙ (sized k l).own_is), (sized k l).few, (sized k l).light);
-}
+-- ---- the same of the points and the assets that feed asset d
 
--- ---- what a point is read as
+module _ (net : Network) (at_point : ℕ → ℕ) (d i : ℕ) (x : Feed) (is : Feeds (from_points net at_point d i) x) where
+  pub point_over : point_feeds net d i ≡ false → Feeds (from_points net at_point d (i + 1)) x
+  point_over = passed_over (λ weight. pos 0) (point_feeds net d) at_point (λ k. factor (point_at net k)) i x is
 
-module _ (g : Checked) (i : ℕ) (low : i < g.grid.point_count) where
-  abbrev read : Point
-  read = get_or g.grid.points i (record { region = 0; dna = 0; marginal = 0; distribution = 0 })
+  pub point_added : point_feeds net d i ≡ true → (x' : Feed) (n f : ℕ) → n ≡ at_point i → f ≡ factor (point_at net i) → Added x n f x' → Feeds (from_points net at_point d (i + 1)) x'
+  point_added = one_added (λ weight. pos 0) (point_feeds net d) at_point (λ k. factor (point_at net k)) i x is
 
-  pub point_named : read.dna ≤ 8
-  point_named =
-      let entry = point_entry (of_checked g) (grid_holds g) i (omega (arith, points_count g.grid)) in
-      let own : read.dna ≡ (point_at (of_checked g) i).dna = ap (λ p. p.dna) (point_read g.grid i low) in
-      ⊎_elim
-      (λ none. omega (arith, none))
-      (λ some.
-      let first = (entry.asset ((point_at (of_checked g) i).dna - 1) (omega arith)).0 in
-      omega (arith, first, dnas_count g.grid, g.grid.few_dnas))
-      (cases_eq (point_at (of_checked g) i).dna 0)
+module _ (net : Network) (at_point at_asset : ℕ → ℕ) (d i : ℕ) (x : Feed) (is : Feeds (from_assets net at_point at_asset d i) x) where
+  pub asset_over : dna_feeds net d i ≡ false → Feeds (from_assets net at_point at_asset d (i + 1)) x
+  asset_over = passed_over (from_points net at_point d (length net.points)) (dna_feeds net d) at_asset (λ k. (dna_at net k).boundary) i x is
 
-  pub point_factor : factor read ≤ 18000
-  point_factor = rw (point_read g.grid i low) (factor_high (of_checked g) (grid_holds g) i)
+  pub asset_added : dna_feeds net d i ≡ true → (x' : Feed) (n f : ℕ) → n ≡ at_asset i → f ≡ (dna_at net i).boundary → Added x n f x' → Feeds (from_assets net at_point at_asset d (i + 1)) x'
+  asset_added = one_added (from_points net at_point d (length net.points)) (dna_feeds net d) at_asset (λ k. (dna_at net k).boundary) i x is
 
-  -- the sums with one point more
-  pub points_more : (at_point : ℕ → ℕ) (x x' : Feeds) (e own : ℕ) → Adds (points_side (of_checked g) at_point i) x
-      → e ≡ at_point i → own ≡ factor read → Grown x read.dna e own x' → Adds (points_side (of_checked g) at_point (i + 1)) x'
-  points_more at_point x x' e own before e_is own_is grown =
-      adds_same (and_one (points_side (of_checked g) at_point i) read.dna e own) (points_side (of_checked g) at_point (i + 1)) x' (λ k _. same energy k) (λ k _. same at_own k)
-      (adds_one (points_side (of_checked g) at_point i) x x' read.dna e own before point_named grown)
-    where
-      same : (weight : ℕ → ℕ → ℤ) (k : ℕ) → and_one (points_side (of_checked g) at_point i) read.dna e own k weight ≡ points_side (of_checked g) at_point (i + 1) k weight
-      same weight k =
-          (λ t. points_side (of_checked g) at_point i k weight +ℤ when (eqb (point_read g.grid i low t).dna (k + 1)) (weight (e_is t) ((own_is ∙ ap factor (point_read g.grid i low)) t)))
-          ∙ sym (total_more i (λ j. when (point_feeds (of_checked g) k j) (weight (at_point j) (factor (point_at (of_checked g) j)))))
+  -- once all assets are counted
+  pub all_fed : i ≡ length net.dnas → Feeds (side net at_point at_asset d) x
+  all_fed all =
+      let count = λ (f : ℕ → ℤ). ap (λ n. total n f) all in
+      record {
+        energy_is = let e = count (λ m. when (dna_feeds net d m) (energy (at_asset m) (dna_at net m).boundary)) in omega (arith, ints, is.energy_is);
+        own_is = let e = count (λ m. when (dna_feeds net d m) (at_own (at_asset m) (dna_at net m).boundary)) in omega (arith, ints, is.own_is);
+      }
+
+-- ---- the room in the sums of an asset that is entered
+
+module _ (m : Metered) (d : ℕ) (low : d < length (network_of m).dnas) (at_point : ℕ → ℕ) (points : (i : ℕ) → at_point i ≤ 200000) (i : ℕ) (x : Feed) where
+  abbrev net : Network
+  net = network_of m
+
+  pub point_room : i < length net.points → Feeds (from_points net at_point d i) x → point_feeds net d i ≡ true → x.energy + at_point i ≤ 3200000
+  point_room l is t =
+      room (λ weight. pos 0) (point_feeds net d) at_point (λ k. factor (point_at net k)) i x is t 0 refl
+      (omega (arith, points_room net (grid_holds m.grid.now) at_point points d low (i + 1) (omega arith)))
+
+  pub asset_room : (at_asset : ℕ → ℕ) → ((k : ℕ) → at_asset k ≤ 200000) → i < length net.dnas → Feeds (from_assets net at_point at_asset d i) x → dna_feeds net d i ≡ true → x.energy + at_asset i ≤ 3200000
+  asset_room at_asset assets l is t =
+      room (from_points net at_point d (length net.points)) (dna_feeds net d) at_asset (λ k. (dna_at net k).boundary) i x is t
+      (counted (length net.points) (point_feeds net d) at_point) (omega (arith, ints, total_counted (length net.points) (point_feeds net d) at_point))
+      (assets_room net (grid_holds m.grid.now) at_point points d low at_asset assets (i + 1) (omega arith))

@@ -2,9 +2,7 @@ pub mod Worked
 pub mod Sizes
 pub mod Estimates
 pub mod Feeding
+pub mod Readings
 pub mod Balances
-pub mod Weighing
-pub mod Passing
-pub mod Beginning
-pub mod Estimating
+pub mod Limits
 pub mod Whole

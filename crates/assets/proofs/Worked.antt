@@ -1,24 +1,15 @@
 -- Assets that are worked from the highest number down.
-use Rattle.std.proofs.Common.{◌≡◌, ℕ, zero, suc, ◌+◌, ◌-◌, ◌<◌, ◌≤◌, Bool, true, false, cond, eqb, leb, length, ℤ, pos, ◌+ℤ◌, ◌-ℤ◌, nat_abs, Some, None, Option, sym, refl, ap, ◌∙◌, ap₂, ⊎_elim, add-zero, add-suc, add-one, arith}
-use borrow.Author.Differences.{ints}
+use Rattle.std.proofs.Common.{◌≡◌, ℕ, zero, suc, ◌+◌, ◌-◌, ◌<◌, ◌≤◌, Bool, true, false, cond, eqb, leb, length, ℤ, ◌+ℤ◌, nat_abs, Some, None, Option, sym, refl, ap, ◌∙◌, ap₂, ⊎_elim, add-zero, add-suc, add-one, arith}
 use Rattle.std.proofs.lemmas.Bool.{cases_eq, eq-eqb, ne_eqb, eqb-true, le-leb, lt-leb, cond-true, cond-false}
 use Rattle.units.specs.Sums.{total, when}
-use Rattle.units.proofs.Totals.{total_ext, total_sub, total_only}
+use Rattle.units.proofs.Totals.{total_ext}
 use Rattle.register.specs.Contents.{Network}
 use Rattle.register.specs.Fields.{factor}
 use Rattle.grid.specs.References.{Holds, point_at, dna_at, point_feeds, dna_feeds}
 use Rattle.grid.proofs.References.{dna_entry}
 use Rattle.interval.specs.Figures.{Figures, sent_at, taken_at}
-use Rattle.assets.specs.Work.{flows_from}
+use Rattle.assets.specs.Estimates.{flows_from}
 use Rattle.assets.specs.Assets.{above_0, below_0, side, senders, takers, loss_at, flow_at, loss_with, flow_with, worked_flows, dna_flow, dna_loss, flow_too_large}
-
-pub when_zero : (b : Bool) → when b (pos 0) ≡ pos 0
-when_zero true = refl
-when_zero false = refl
-
--- another summand at one place
-total_change : (n i : ℕ) (f g : ℕ → ℤ) → i < n → ((k : ℕ) → k < n → (i ≡ k → ⊥) → g k ≡ f k) → total n g ≡ total n f +ℤ (g i -ℤ f i)
-total_change n i f g l h = omega (arith, ints, total_sub n g f, total_only n i (λ k. g k -ℤ f k) l (λ k p d. omega (arith, ints, h k p d)))
 
 module _ (net : Network) (fig : Figures) where
   -- ---- one asset more
@@ -36,13 +27,6 @@ module _ (net : Network) (fig : Figures) where
       let w = length net.dnas - first in
       let all : length net.dnas ≡ w + first = omega arith in
       ap (λ n. worked_flows net fig n k) all ∙ worked_stays w first k (omega arith) (omega arith)
-
-  not_worked : (w k : ℕ) → w ≤ length net.dnas → k < length net.dnas - w → worked_flows net fig w k ≡ pos 0
-  not_worked zero k fits low = refl
-  not_worked (suc w) k fits low = cond-false _ _ _ (ne_eqb k (length net.dnas - suc w) (omega arith)) ∙ not_worked w k (omega arith) (omega arith)
-
-  pub unworked : (first k : ℕ) → first ≤ length net.dnas → k < first → flows_from net fig first k ≡ pos 0
-  unworked first k fits low = not_worked (length net.dnas - first) k (omega arith) (omega arith)
 
   pub one_more : (d k : ℕ) → d < length net.dnas → flows_from net fig d k ≡ cond (eqb k d) (flow_with net fig (flows_from net fig (d + 1)) d) (flows_from net fig (d + 1) k)
   one_more d k low =
@@ -98,30 +82,3 @@ module _ (net : Network) (fig : Figures) where
 
     pub flow_of_all : dna_flow net fig d ≡ flow_with net fig (dna_flow net fig) d
     flow_of_all = flow_is ∙ sym (ap₂ (λ s t. flow_at s t (dna_at net d).boundary) same_senders same_takers)
-
-  -- ---- what an asset passes on to the one downstream
-
-  pub side_step : (at_point : ℕ → ℕ) (part : ℤ → ℕ) (weight : ℕ → ℕ → ℤ) → part (pos 0) ≡ 0 → ((own : ℕ) → weight 0 own ≡ pos 0)
-      → (d : ℕ) → d < length net.dnas → (k : ℕ)
-      → side net at_point (λ m. part (flows_from net fig d m)) k weight
-      ≡ side net at_point (λ m. part (flows_from net fig (d + 1) m)) k weight +ℤ when (dna_feeds net k d) (weight (part (flow_with net fig (flows_from net fig (d + 1)) d)) (dna_at net d).boundary)
-  side_step at_point part weight none nothing d low k =
-      omega (arith, ints, total_change (length net.dnas) d old new low elsewhere, before, after)
-    where
-      old : ℕ → ℤ
-      old m = when (dna_feeds net k m) (weight (part (flows_from net fig (d + 1) m)) (dna_at net m).boundary)
-
-      new : ℕ → ℤ
-      new m = when (dna_feeds net k m) (weight (part (flows_from net fig d m)) (dna_at net m).boundary)
-
-      elsewhere : (m : ℕ) → m < length net.dnas → (d ≡ m → ⊥) → new m ≡ old m
-      elsewhere m l other = ap (λ z. when (dna_feeds net k m) (weight (part z) (dna_at net m).boundary)) (one_more d m low ∙ cond-false _ _ _ (ne_eqb m d (λ e. other (sym e))))
-
-      before : old d ≡ pos 0
-      before =
-          ap (λ z. when (dna_feeds net k d) (weight (part z) (dna_at net d).boundary)) (unworked (d + 1) d (omega arith) (omega arith))
-          ∙ ap (λ n. when (dna_feeds net k d) (weight n (dna_at net d).boundary)) none
-          ∙ ap (when (dna_feeds net k d)) (nothing (dna_at net d).boundary) ∙ when_zero (dna_feeds net k d)
-
-      after : new d ≡ when (dna_feeds net k d) (weight (part (flow_with net fig (flows_from net fig (d + 1)) d)) (dna_at net d).boundary)
-      after = ap (λ z. when (dna_feeds net k d) (weight (part z) (dna_at net d).boundary)) (one_more d d low ∙ cond-true _ _ _ (eq-eqb d d refl))

@@ -1,6 +1,5 @@
 pub mod Assets
 pub mod Laws
 pub mod Views
-pub mod Feeds
-pub mod Balances
-pub mod Work
+pub mod Sides
+pub mod Estimates

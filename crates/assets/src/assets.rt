@@ -1,13 +1,38 @@
-ghost use Rattle.std.specs.Prelude.{ℕ, ◌≤◌, pos, slice_index_or, unsigned_abs};
+ghost use Rattle.std.specs.Prelude.{◌≡◌, ℕ, ◌<◌, length};
+ghost use Rattle.std.specs.Result.{result_map_both};
+ghost use Rattle.units.specs.Refusals.{answer};
+ghost use Rattle.interval.specs.Metered.{network_of, figures_of};
+ghost use Rattle.assets.specs.Assets.{estimates};
+ghost use Rattle.assets.specs.Laws.{AssetEstimated};
+ghost use Rattle.assets.specs.Views.{of_assets};
 
-mod calls;
+use crate::asset::Asset;
+use crate::estimate::Estimate;
+use interval::metered::Metered;
+use units::refusal::Refusal;
 
-// What the assets do in an interval: each one's flow at its boundary in kWh, its estimated loss in node units, and its
-// residue in grains.
+// What each asset does in an interval; zeros beyond the last.
 #[derive(Clone, Copy)]
 pub struct Assets {
-    pub flows: [i32; 8],
-    pub losses: [i64; 8],
-    pub residues: [i64; 8],
-    ghost residues_small: { (k : ℕ) → unsigned_abs (slice_index_or residues k (pos 0)) ≤ 115200000000000000 },
+    pub found: [Estimate; 8],
+}
+
+impl Assets {
+    // Works the assets from the highest number down, or refuses the first whose flow is too large. Each loss and flow
+    // is what the published formulas give, rounded down.
+    pub fn of(metered: &Metered) -> Result<Assets, Refusal>
+        ensures value { answer (result_map_both of_assets (λ e. e) result) ≡ estimates (network_of metered.now) (figures_of metered.now) }
+        ensures estimated { (d : ℕ) → d < length (network_of metered.now).dnas → AssetEstimated (network_of metered.now) (figures_of metered.now) d }
+    {
+        let mut found = [Estimate::default(); 8];
+        // By number, and not over the slots: each asset reads what was found of those above it.
+        for number in (0..metered.grid.grid.dnas.len()).rev() {
+            let asset = Asset {
+                metered: *metered,
+                number,
+            };
+            found[number] = asset.estimate(&found)?;
+        }
+        Ok(Assets { found })
+    }
 }

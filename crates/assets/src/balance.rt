@@ -1,92 +1,65 @@
 // An asset's two sides against each other.
-ghost use Rattle.std.specs.Prelude.{◌≡◌, ◌*◌, ◌<◌, ◌≤◌, pos, ◌-ℤ◌, ◌*ℤ◌, slice_index_or, unsigned_abs};
-ghost use Rattle.assets.specs.Balances.{Sound, weighed, loss_of, size_of, flow_of};
-ghost use Rattle.assets.specs.Feeds.{Limited};
+ghost use Rattle.std.specs.Prelude.{◌≡◌, ◌*◌, ◌≤◌, Some, None, pos, ◌-ℤ◌, ◌*ℤ◌, if◌then◌else◌, nat_le, unsigned_abs};
+ghost use Rattle.assets.specs.Assets.{Side, loss_at, size_at, flow_at};
+ghost use Rattle.assets.specs.Sides.{Feeding, surplus_of, larger_of};
 
-use crate::feeds::Sides;
+use crate::sides::Sides;
 use std::num::NonZeroU32;
 use units::floor::floor;
 
-// What an asset's senders bring beyond its takers in kWh, and of the larger side its energy in kWh and the same at its
-// own factors in node units.
+// The largest flow at a boundary, in kWh.
+const MOST: i32 = 200_000;
+
+// The two sides, and the factor of the boundary.
 #[derive(Clone, Copy)]
 pub struct Balance {
-    pub surplus: i64,
-    pub gross: i64,
-    pub at_own: i64,
+    pub sides: Sides,
+    pub boundary: u32,
+    ghost high: { boundary ≤ 15000 },
 }
 
 impl Balance {
-    pub(crate) fn of(sides: &Sides, asset: usize) -> Balance
-        requires low { asset < 8 }
-        requires sent { Limited sides.now.senders }
-        requires taken { Limited sides.now.takers }
-        ensures { result ≡ weighed (slice_index_or sides.now.senders.energy asset (pos 0)) (slice_index_or sides.now.senders.at_own asset (pos 0)) (slice_index_or sides.now.takers.energy asset (pos 0)) (slice_index_or sides.now.takers.at_own asset (pos 0)) }
+    // The larger side at what the boundary's factor is above the own ones, in node units.
+    fn difference(self) -> i64
+        ensures { result ≡ (pos (larger_of self.sides).energy *ℤ pos self.boundary) -ℤ pos (larger_of self.sides).at_own }
     {
-        let sent = sides.senders.energy[asset];
-        let taken = sides.takers.energy[asset];
-        if taken < sent {
-            Balance {
-                surplus: sent - taken,
-                gross: sent,
-                at_own: sides.senders.at_own[asset],
-            }
-        } else {
-            Balance {
-                surplus: sent - taken,
-                gross: taken,
-                at_own: sides.takers.at_own[asset],
-            }
-        }
-    }
-
-    // The energy at what the boundary's factor is above the own ones, in node units.
-    fn difference(&self, boundary: u32) -> i64
-        requires sound { Sound self.now }
-        requires boundary { boundary ≤ 15000 }
-        ensures value { result ≡ (self.now.gross *ℤ pos boundary) -ℤ self.now.at_own }
-        ensures small { unsigned_abs result ≤ 18000 * unsigned_abs self.now.gross }
-    {
-        self.gross * i64::from(boundary) - self.at_own
+        let larger = self.sides.larger();
+        i64::from(larger.energy) * i64::from(self.boundary) - larger.at_own as i64
     }
 
     // The estimated loss in node units, rounded down.
-    pub(crate) fn loss(&self, boundary: u32) -> i64
-        requires sound { Sound self.now }
-        requires boundary { boundary ≤ 15000 }
-        ensures value { result ≡ loss_of self.now boundary }
+    pub(crate) fn loss(self) -> i64
+        ensures value { (sent taken : Side) → Feeding sent taken self.sides → result ≡ loss_at sent taken self.boundary }
         ensures small { unsigned_abs result ≤ 57600000000 }
     {
-        match NonZeroU32::new(self.gross as u32) {
+        match NonZeroU32::new(self.sides.larger().energy) {
             None => 0,
-            Some(gross) => floor(self.surplus * self.difference(boundary), gross),
+            Some(gross) => floor(self.sides.surplus() * self.difference(), gross),
         }
     }
 
     // The size of the flow at the boundary in kWh, rounded down.
-    fn size(&self, boundary: u32) -> u64
-        requires sound { Sound self.now }
-        requires used { 0 < unsigned_abs self.now.gross }
-        requires boundary { 0 < boundary }
-        ensures value { result ≡ size_of self.now boundary }
-        ensures small { result ≤ 184320000000000000 }
+    fn size(self) -> u64
+        ensures { (sent taken : Side) → Feeding sent taken self.sides → result ≡ size_at sent taken self.boundary }
     {
-        let energy = self.gross.unsigned_abs() * u64::from(boundary);
-        self.surplus.unsigned_abs() * self.at_own.unsigned_abs() / energy
+        let larger = self.sides.larger();
+        let energy = u64::from(larger.energy) * u64::from(self.boundary);
+        let product = self.sides.surplus().unsigned_abs() * larger.at_own;
+        product.checked_div(energy).unwrap_or_default()
     }
 
-    // The flow at the boundary in kWh.
-    pub(crate) fn flow(&self, boundary: u32) -> i64
-        requires sound { Sound self.now }
-        requires boundary { 0 < boundary }
-        ensures { result ≡ flow_of self.now boundary }
+    // The flow at the boundary in kWh, unless it is too large.
+    pub(crate) fn flow(self) -> Option<i32>
+        ensures { (sent taken : Side) → Feeding sent taken self.sides → result ≡ (if nat_le (unsigned_abs (flow_at sent taken self.boundary)) 200000 then Some (flow_at sent taken self.boundary) else None) }
     {
-        if self.surplus == 0 {
-            0
-        } else if self.surplus > 0 {
-            self.size(boundary) as i64
+        let size = i32::try_from(self.size()).ok()?;
+        if size > MOST {
+            return None;
+        }
+        if self.sides.surplus() > 0 {
+            Some(size)
         } else {
-            -(self.size(boundary) as i64)
+            Some(-size)
         }
     }
 }

@@ -1,6 +1,8 @@
 #![tactic(auto)]
 
+mod asset;
 pub mod assets;
 mod balance;
-mod feeds;
-mod work;
+pub mod estimate;
+mod feed;
+mod sides;

@@ -9,6 +9,7 @@ use losses::lossless::Lossless;
 use losses::segments::Segments;
 
 // A loss book whose kind is chosen while a program runs.
+// An enum and not a `Box<dyn LossBook>`, since the library has no heap; it has a `match`, since no function may hand out a `dyn`.
 #[derive(Clone, Copy)]
 pub enum AnyBook {
     Lossless(Lossless),

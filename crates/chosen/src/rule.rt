@@ -8,6 +8,8 @@ use sharing::rule::SharingRule;
 use sharing::running::Running;
 
 // A sharing rule whose kind is chosen while a program runs.
+// An enum and not a `Box<dyn SharingRule>`, since the library has no heap; each method has a `match`, since no function may
+// hand out a `dyn`.
 #[derive(Drop)]
 pub enum AnyRule {
     Equal(Equal),
@@ -18,7 +20,7 @@ pub enum AnyRule {
 impl SharingRule for AnyRule {
     ghost meaning = { rule_of };
 
-    ghost lawful = { λ s. rule_lawful s };
+    ghost lawful = { rule_lawful };
 
     fn owners(&self) -> u32 {
         match self {
@@ -38,6 +40,7 @@ impl SharingRule for AnyRule {
 }
 
 // A rule under none, one or two derogations.
+// Three kinds, since each is a type of its own; a list of parts would need a derogation's code a second time.
 #[derive(Drop)]
 pub enum Pile {
     Plain(AnyRule),
@@ -48,7 +51,7 @@ pub enum Pile {
 impl SharingRule for Pile {
     ghost meaning = { pile_of };
 
-    ghost lawful = { λ s. pile_lawful s };
+    ghost lawful = { pile_lawful };
 
     fn owners(&self) -> u32 {
         match self {

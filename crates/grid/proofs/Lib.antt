@@ -1,3 +1,3 @@
+pub mod Chains
 pub mod References
-pub mod Counts
 pub mod Places

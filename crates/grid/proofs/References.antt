@@ -1,16 +1,10 @@
 -- What a register whose references hold says of each of its entries.
-use Rattle.std.proofs.Common.{◌≡◌, ℕ, suc, ◌<◌, ◌≤◌, true, false, ltb, length, is_some, Some, None, Option, refl, arith}
-use Rattle.std.proofs.lemmas.Bool.{both_ways, and_parts, ltb-true}
+use Rattle.std.proofs.Common.{◌≡◌, ℕ, suc, ◌<◌, ◌≤◌, true, false, length, is_some, Some, None, Option, refl, arith}
 use Rattle.std.proofs.lemmas.Bool.Decides.{nat_tests}
 use Rattle.units.specs.Sums.{first_failure}
 use Rattle.units.proofs.Firsts.{first_failure_none}
 use Rattle.register.specs.Contents.{Network}
-use Rattle.register.specs.Fields.{in_range, point_unfit}
-use Rattle.register.specs.declared.entry.Point.{Point}
-use Rattle.grid.specs.References.{Holds, broken, corridor_at, link_at, point_at, dna_at, corridor_holds, link_holds, point_holds, dna_holds, fed_by, placed, names_asset}
-
-some_is_not_none : (n : ℕ) → ◌≡◌ {A = Option ℕ} (Some n) None → ⊥
-some_is_not_none n e = let z : ◌≡◌ {A = ℕ} 0 1 = cc in omega arith
+use Rattle.grid.specs.References.{Holds, place_in, broken, corridor_at, link_at, point_at, dna_at, corridor_holds, link_holds, point_holds, dna_holds, fed_by}
 
 -- ---- every test, from the register as a whole
 
@@ -19,8 +13,12 @@ pub none_broken : (net : Network) → is_some (broken net) ≡ false → Holds n
 none_broken net = none (broken net)
   where
     none : (o : Option ℕ) → is_some o ≡ false → o ≡ None
-    none (Some k) e = absurd (both_ways true e refl)
+    none (Some k) e = absurd (cc)
     none None e = refl
+
+none_in : (roll : ℕ) (o rest : Option ℕ) → place_in roll o rest ≡ None → (o ≡ None) × (rest ≡ None)
+none_in roll (Some k) rest e = absurd (cc)
+none_in roll None rest e = (refl, e)
 
 module _ (net : Network) where
   pub record Tests : Type 0 where
@@ -30,55 +28,19 @@ module _ (net : Network) where
     pub dnas : (i : ℕ) → i < length net.dnas → dna_holds net i ≡ true
 
   pub tests_hold : Holds net → Tests
-  tests_hold h = record {
-    corridors = first_failure_none (length net.corridors) (corridor_holds net) no_corridor;
-    links = first_failure_none (length net.links) (link_holds net) no_link;
-    points = first_failure_none (length net.points) (point_holds net) no_point;
-    dnas = first_failure_none (length net.dnas) (dna_holds net) no_dna;
-  }
-    where
-      at_corridor : (o : Option ℕ) → first_failure (length net.corridors) (corridor_holds net) ≡ o → o ≡ None
-      at_corridor (Some k) e = absurd (some_is_not_none _ (rw e at h))
-      at_corridor None e = refl
-
-      no_corridor : first_failure (length net.corridors) (corridor_holds net) ≡ None
-      no_corridor = at_corridor _ refl
-
-      at_link : (o : Option ℕ) → first_failure (length net.links) (link_holds net) ≡ o → o ≡ None
-      at_link (Some k) e = absurd (some_is_not_none _ (rw (no_corridor, e) at h))
-      at_link None e = refl
-
-      no_link : first_failure (length net.links) (link_holds net) ≡ None
-      no_link = at_link _ refl
-
-      at_point : (o : Option ℕ) → first_failure (length net.points) (point_holds net) ≡ o → o ≡ None
-      at_point (Some k) e = absurd (some_is_not_none _ (rw (no_corridor, no_link, e) at h))
-      at_point None e = refl
-
-      no_point : first_failure (length net.points) (point_holds net) ≡ None
-      no_point = at_point _ refl
-
-      at_dna : (o : Option ℕ) → first_failure (length net.dnas) (dna_holds net) ≡ o → o ≡ None
-      at_dna (Some k) e = absurd (some_is_not_none _ (rw (no_corridor, no_link, no_point, e) at h))
-      at_dna None e = refl
-
-      no_dna : first_failure (length net.dnas) (dna_holds net) ≡ None
-      no_dna = at_dna _ refl
+  tests_hold h =
+      let from_links = none_in 1 (first_failure (length net.corridors) (corridor_holds net)) _ h in
+      let from_points = none_in 2 (first_failure (length net.links) (link_holds net)) _ from_links.1 in
+      let from_dnas = none_in 3 (first_failure (length net.points) (point_holds net)) _ from_points.1 in
+      let from_none = none_in 4 (first_failure (length net.dnas) (dna_holds net)) _ from_dnas.1 in
+      record {
+        corridors = first_failure_none (length net.corridors) (corridor_holds net) from_links.0;
+        links = first_failure_none (length net.links) (link_holds net) from_points.0;
+        points = first_failure_none (length net.points) (point_holds net) from_dnas.0;
+        dnas = first_failure_none (length net.dnas) (dna_holds net) from_none.0;
+      }
 
 -- ---- what each test says
-
-record PointRange (p : Point) : Type 0 where
-  low : p.region ≤ 7
-  marginal_low : 5000 ≤ p.marginal
-  marginal_high : p.marginal ≤ 15000
-  distribution_low : 8000 ≤ p.distribution
-  distribution_high : p.distribution ≤ 12000
-
-point_ranged : (p : Point) → in_range (point_unfit p) ≡ true → PointRange p
-point_ranged p h = grind (arith, nat_tests)
-
-asset_named : (net : Network) (end region d : ℕ) → names_asset net end region d ≡ true → (n : ℕ) → d ≡ suc n → (n < end) × ((dna_at net n).region ≡ region)
-asset_named net end region d h n e = grind (arith, nat_tests)
 
 module _ (net : Network) (i : ℕ) where
   pub record CorridorFits : Type 0 where
@@ -109,20 +71,7 @@ module _ (net : Network) (i : ℕ) where
     pub asset : (n : ℕ) → (point_at net i).dna ≡ suc n → (n < length net.dnas) × ((dna_at net n).region ≡ (point_at net i).region)
 
   pub point_fits : point_holds net i ≡ true → PointFits
-  point_fits h =
-      let p = point_at net i in
-      let parts = and_parts (placed net.regions p) (names_asset net (length net.dnas) p.region p.dna) h in
-      let place = and_parts (in_range (point_unfit p)) (ltb p.region net.regions) parts.0 in
-      let range = point_ranged p place.0 in
-      record {
-        entered = ltb-true p.region net.regions place.1;
-        low = omega (arith, range.low);
-        marginal_low = range.marginal_low;
-        marginal_high = range.marginal_high;
-        distribution_low = range.distribution_low;
-        distribution_high = range.distribution_high;
-        asset = asset_named net (length net.dnas) p.region p.dna parts.1;
-      }
+  point_fits h = grind (arith, nat_tests)
 
   pub record DnaFits : Type 0 where
     pub entered : (dna_at net i).region < net.regions

@@ -1,4 +1,3 @@
 pub mod References
 pub mod Views
-pub mod Kinds
 pub mod Checks

@@ -1,13 +1,13 @@
--- The register's contents as its code holds them.
-use Rattle.std.specs.Prelude.{take}
+-- The register's contents as a grid holds them.
+use Rattle.units.specs.FixedLists.{listed}
 use Rattle.register.specs.Contents.{Network}
 use Rattle.grid.specs.declared.grid.Grid.{Grid}
 
 abbrev pub of_grid : Grid → Network
 of_grid g = record {
   regions = g.region_count;
-  corridors = take g.corridor_count g.corridors;
-  links = take g.link_count g.links;
-  points = take g.point_count g.points;
-  dnas = take g.dna_count g.dnas;
+  corridors = listed g.corridors;
+  links = listed g.links;
+  points = listed g.points;
+  dnas = listed g.dnas;
 }

@@ -1,4 +1,5 @@
 #![tactic(auto)]
 
 pub mod checked;
+pub mod entered;
 pub mod grid;

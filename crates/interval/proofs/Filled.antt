@@ -1,8 +1,8 @@
 -- Lists of figures: none yet, one more, and a whole run.
-use Rattle.std.proofs.Common.{◌≡◌, ℕ, zero, suc, ◌+◌, ◌<◌, ◌≤◌, false, ltb, ◌≢◌, List, length, get_or, set, replicate, ℤ, pos, ◌≤ℤ◌, None, Ok, Err, Result, sym, refl, ◌∙◌, subst, ⊎_elim, add-zero, arith, below_more}
+use Rattle.std.proofs.Common.{◌≡◌, ℕ, zero, suc, ◌+◌, ◌-◌, ◌<◌, ◌≤◌, false, ltb, ◌≢◌, List, ◌++◌, length, get_or, set, take, drop, replicate, ℤ, pos, ◌≤ℤ◌, None, Ok, Err, Result, sym, refl, ◌∙◌, subst, ⊎_elim, add-zero, arith, below_more}
 use Rattle.units.specs.declared.refusal.Refusal.{Refusal}
 use Rattle.units.specs.Refusals.{told}
-use Rattle.std.proofs.lemmas.List.{length-set, get_or-set_same, get_or-set_other, set_past}
+use Rattle.std.proofs.lemmas.List.{length-set, get_or-set_same, get_or-set_other, set_past, get_or-take, get_or_past, get_or-drop, get_or_append_left, get_or-append_right, length-take, length-take-le, length-append, length-drop}
 use Rattle.std.proofs.lemmas.Bool.{cases_eq, cases_lt, ltb-true}
 use Rattle.register.specs.Contents.{Network}
 use Rattle.interval.specs.Ranges.{Between, Upto}
@@ -33,11 +33,46 @@ upto_set high xs i v a h = every_set (λ x. x ≤ high) 0 xs i v a h
 pub between_set : (low high : ℤ) (xs : List ℤ) (i : ℕ) (v : ℤ) → low ≤ℤ v → v ≤ℤ high → Between low high xs → Between low high (set xs i v)
 between_set low high xs i v a b h = every_set (λ x. (low ≤ℤ x) × (x ≤ℤ high)) (pos 0) xs i v (a, b) h
 
+-- what holds of each place, and of the value beyond the end, holds in each part
+pub every_take : {A : Type 0} (P : A → Type 0) (d : A) (n : ℕ) (xs : List A) → P d → ((k : ℕ) → P (get_or xs k d)) → (k : ℕ) → P (get_or (take n xs) k d)
+every_take P d n xs base h k =
+    ⊎_elim
+    (λ (l : k < n). subst P (sym (get_or-take n xs k d l)) (h k))
+    (λ (l : n ≤ k). subst P (sym (get_or_past (take n xs) k d (omega (arith, length-take n xs)))) base)
+    (cases_lt k n)
+
+-- no figure yet, in the first places of zeros
+pub figured_none : (ws : List ℕ) (start size k : ℕ) (low high : ℤ) → size ≤ 8 → low ≤ℤ pos 0 → pos 0 ≤ℤ high
+    → Figured ws start 0 k low high size (take size (replicate 8 (pos 0)))
+figured_none ws start size k low high few a b = record {
+  room = length-take-le size (replicate 8 (pos 0)) few;
+  passed = λ i h. absurd (omega (arith, h));
+  ranged = every_take (λ z. (low ≤ℤ z) × (z ≤ℤ high)) (pos 0) size (replicate 8 (pos 0)) (a, b)
+      (λ i. subst (λ z. (low ≤ℤ z) × (z ≤ℤ high)) (sym (blank (pos 0) 8 i)) (a, b));
+  said = λ i h. absurd (omega (arith, h));
+}
+
+-- all n figures, and zeros behind them
+pub figured_all : (ws : List ℕ) (start n k : ℕ) (low high : ℤ) (xs : List ℤ) → n ≤ 8 → low ≤ℤ pos 0 → pos 0 ≤ℤ high
+    → Figured ws start n k low high n xs → Figured ws start n k low high 8 (xs ++ drop n (replicate 8 (pos 0)))
+figured_all ws start n k low high xs few a b h =
+    let zeros = replicate 8 (pos 0) in
+    record {
+      room = length-append xs (drop n zeros) ∙ omega (arith, h.room, length-drop n zeros);
+      passed = h.passed;
+      ranged = λ i. ⊎_elim
+          (λ (l : i < n). subst (λ z. (low ≤ℤ z) × (z ≤ℤ high)) (sym (get_or_append_left xs (drop n zeros) (pos 0) i (omega (arith, h.room)))) (h.ranged i))
+          (λ (l : n ≤ i). subst (λ z. (low ≤ℤ z) × (z ≤ℤ high))
+          (sym (get_or-append_right xs (drop n zeros) n i (pos 0) h.room l ∙ get_or-drop n zeros (i - n) (pos 0) ∙ blank (pos 0) 8 (n + (i - n)))) (a, b))
+          (cases_lt i n);
+      said = λ i l. get_or_append_left xs (drop n zeros) (pos 0) i (omega (arith, h.room)) ∙ h.said i l;
+    }
+
 -- one figure more
-pub figured_more : (ws : List ℕ) (start i k : ℕ) (low high : ℤ) (xs : List ℤ) (z : ℤ) → Figured ws start i k low high xs → i < 8
+pub figured_more : (ws : List ℕ) (start i k : ℕ) (low high : ℤ) (size : ℕ) (xs : List ℤ) (z : ℤ) → Figured ws start i k low high size xs → i < size
     → figure_fault ws start k low high i ≡ None → z ≡ signed (word ws (start + i)) → low ≤ℤ z → z ≤ℤ high
-    → Figured ws start (i + 1) k low high (set xs i z)
-figured_more ws start i k low high xs z h small e s a b =
+    → Figured ws start (i + 1) k low high size (set xs i z)
+figured_more ws start i k low high size xs z h small e s a b =
     let lt : i < length xs = omega (arith, h.room) in
     record {
       room = length-set xs i z ∙ h.room;

@@ -7,3 +7,5 @@ pub mod Pieces
 pub mod Accepted
 pub mod Says
 pub mod Spelled
+pub mod Named
+pub mod Small

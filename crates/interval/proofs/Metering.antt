@@ -1,6 +1,6 @@
 -- The readings of the words so far, and one word more.
-use Rattle.std.proofs.Common.{◌≡◌, ℕ, zero, suc, ◌+◌, ◌<◌, ◌≤◌, true, false, cond, ◌&&◌, ◌||◌, eqb, ltb, leb, ◌⊎◌, List, length, get_or, set, replicate, None, sym, refl, ◌∙◌, subst, inl, inr, ⊎_elim, add-one, arith}
-use Rattle.std.proofs.lemmas.List.{length-set, length-replicate, get_or-set_same, get_or-set_other}
+use Rattle.std.proofs.Common.{◌≡◌, ℕ, zero, suc, ◌+◌, ◌<◌, ◌≤◌, true, false, cond, ◌&&◌, ◌||◌, eqb, ltb, leb, ◌⊎◌, List, length, get_or, set, take, drop, replicate, None, sym, refl, ◌∙◌, subst, inl, inr, ⊎_elim, add-one, arith}
+use Rattle.std.proofs.lemmas.List.{length-set, length-replicate, get_or-set_same, get_or-set_other, get_or-take, get_or-drop}
 use Rattle.std.proofs.lemmas.Bool.{cases_eq, eq-eqb, ne_eqb, le-leb, lt-leb, and_from, and_left, and_right, and_parts, or_cases, cond-true, cond-false, eqb-true, ltb-true, leb-true}
 use Rattle.register.specs.Contents.{Network}
 use Rattle.interval.specs.Ranges.{highest_energy}
@@ -42,6 +42,10 @@ module _ (net : Network) (ws : List ℕ) where
         get_or-set_other xs (point w) p (energy w) 0 (λ e. ne (sym e)) ∙ said p
         ∙ sym (before j k p (and_right (leb (readings_from net) j) _ (and_right (eqb (kind w) k) _ (ne_eqb (point w) p ne)))))
         (cases_eq (point w) p)
+
+-- a word of those from index `from` on
+pub word_from : (ws : List ℕ) (from n i : ℕ) → i < n → get_or (take n (drop from ws)) i 0 ≡ word ws (from + i)
+word_from ws from n i h = get_or-take n (drop from ws) i 0 h ∙ get_or-drop from ws i 0
 
 -- what a word that passes after the figures, and does not close, is
 pub record IsReading (points least w : ℕ) : Type 0 where

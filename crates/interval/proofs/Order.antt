@@ -1,10 +1,11 @@
 -- The refusal of a word in each part of an interval, and one word more.
 use Rattle.std.proofs.Common.{◌≡◌, ℕ, suc, ◌+◌, ◌-◌, ◌<◌, ◌≤◌, Bool, true, false, eqb, ltb, leb, List, length, Some, None, Option, sym, refl, ap, ◌∙◌, add-one, arith}
 use Rattle.std.proofs.lemmas.Bool.{ne_eqb, le-leb, lt-leb, lt-ltb, le-ltb, cond-true, cond-false, and_left}
-use Rattle.units.specs.Refusals.{Refused, done, turned_down}
+use Rattle.units.specs.declared.refusal.Layer.TheVariants.{Words}
+use Rattle.units.specs.Refusals.{Refused, refused, done, turned_down}
 use Rattle.register.specs.Contents.{Network}
 use Rattle.interval.specs.Ranges.{lowest_price, highest_price, lowest_flow, highest_flow}
-use Rattle.interval.specs.Words.{fault, closes, read, read_on, word, require, present, from_to, opening, figure, late, kind, price_kind, flow_kind, closing_kind, rank, readings_from, least_rank}
+use Rattle.interval.specs.Words.{fault, closes, read, read_on, word, require, present, from_to, opening, figure, closing, reading, late, kind, price_kind, flow_kind, closing_kind, rank, readings_from, least_rank}
 use Rattle.interval.specs.Steps.{Reached}
 
 -- a test that did not refuse
@@ -49,6 +50,23 @@ module _ (net : Network) (ws : List ℕ) where
   pub fault_after : (j points least : ℕ) → readings_from net ≤ j → length net.points ≡ points → least ≡ least_rank net ws j
       → fault net ws j ≡ present ws j (late points least j (word ws j))
   fault_after j points least h p q = rw (← p, q) (fault_late j h)
+
+  -- a word that is there, after the figures: one that closes, and one that does not
+  late_is : (j points least : ℕ) → j < length ws → present ws j (late points least j (word ws j)) ≡ late points least j (word ws j)
+  late_is j points least lt = let a : ltb j (length ws) ≡ true = lt-ltb j (length ws) lt in rw a
+
+  pub late_closing : (j points least : ℕ) → j < length ws → eqb (kind (word ws j)) closing_kind ≡ true
+      → present ws j (late points least j (word ws j)) ≡ closing j (word ws j)
+  late_closing j points least lt e = late_is j points least lt ∙ cond-true (eqb (kind (word ws j)) closing_kind) _ _ e
+
+  pub late_reading : (j points least : ℕ) → j < length ws → eqb (kind (word ws j)) closing_kind ≡ false
+      → present ws j (late points least j (word ws j)) ≡ reading points least j (word ws j)
+  late_reading j points least lt e = late_is j points least lt ∙ cond-false (eqb (kind (word ws j)) closing_kind) _ _ e
+
+  -- there is no word j
+  pub fault_missing : (j : ℕ) → length ws ≤ j → fault net ws j ≡ Some (refused 1 Words (length ws))
+  unfolding fault
+  fault_missing j h = let a : ltb j (length ws) ≡ false = le-ltb j (length ws) h in rw a
 
   pub least_none : least_rank net ws (readings_from net) ≡ 0
   least_none = cond-true (leb (readings_from net) (readings_from net)) _ _ (le-leb (readings_from net) (readings_from net) (omega arith))

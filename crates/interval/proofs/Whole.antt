@@ -1,16 +1,20 @@
 -- What the parts of an interval say together.
-use Rattle.std.proofs.Common.{◌≡◌, ℕ, zero, suc, ◌+◌, ◌<◌, ◌≤◌, List, [], ◌∷◌, ◌++◌, length, get_or, take, ℤ, pos, ◌≤ℤ◌, None, sym, refl, ap, ◌∙◌, subst, ⊎_elim, arith, take-suc}
+use Rattle.std.proofs.Common.{◌≡◌, ℕ, zero, suc, ◌+◌, ◌<◌, ◌≤◌, List, [], ◌∷◌, ◌++◌, length, get_or, map, take, ℤ, pos, ◌≤ℤ◌, None, sym, refl, ap, ◌∙◌, subst, arith, take-suc}
 use lib.Signed.{le_z_yes}
-use Rattle.std.proofs.lemmas.Bool.{cases_lt}
-use Rattle.std.proofs.lemmas.List.{get_or-take, get_or_past, length-take, length-take-le}
+use Rattle.std.proofs.Math.ListN.{get_or-map}
+use Rattle.std.proofs.lemmas.List.{get_or-take, length-take-le, length-map}
 use Rattle.units.specs.Sums.{tabulate}
 use Rattle.register.specs.Contents.{Network}
 use Rattle.interval.specs.Words.{word, price_kind, flow_kind, signed, count, opening, present, reading_of, readings_from, figures}
-use Rattle.grid.proofs.Counts.{links_count, points_count}
+use Rattle.grid.specs.Views.{of_grid}
+use Rattle.units.proofs.FixedLists.{listed_few}
 use Rattle.interval.specs.Ranges.{lowest_price, highest_price, lowest_flow, highest_flow, highest_energy, Between, Upto}
 use Rattle.interval.specs.Figures.{Figures}
+use Rattle.interval.specs.Views.{sent_of, taken_of}
+use Rattle.interval.specs.declared.interval.Reading.{Reading}
 use Rattle.interval.specs.Laws.{IntervalsInRange}
 use Rattle.interval.specs.Steps.{Figured, Reached, ReadReadings}
+use Rattle.interval.proofs.Filled.{every_take}
 use Rattle.interval.proofs.Order.{fault_first, open_before, reached_none, reached_more}
 
 -- a list that has f's value at each place is f's list
@@ -36,7 +40,7 @@ module _ (net : Network) (ws : List ℕ) where
 
   module _ (used : ℕ) (fits : used ≤ length ws) where
     -- a list of figures from `start` on
-    front : (start n k : ℕ) (low high : ℤ) (xs : List ℤ) → Figured ws start n k low high xs → n ≤ 8 → start + n ≤ used
+    front : (start n k : ℕ) (low high : ℤ) (xs : List ℤ) → Figured ws start n k low high 8 xs → n ≤ 8 → start + n ≤ used
         → take n xs ≡ tabulate n (λ i. signed (word (take used ws) (start + i)))
     front start n k low high xs h few within =
         let room : length xs ≡ 8 = h.room in
@@ -55,8 +59,8 @@ module _ (net : Network) (ws : List ℕ) where
         → length net.links ≡ links → length net.points ≡ points → net.regions ≤ 8 → links ≤ 8 → points ≤ 128
         → readings_from net < used
         → number ≡ count (word ws 0)
-        → Figured ws 1 net.regions price_kind low high prices
-        → Figured ws (1 + net.regions) links flow_kind low' high' flows
+        → Figured ws 1 net.regions price_kind low high 8 prices
+        → Figured ws (1 + net.regions) links flow_kind low' high' 8 flows
         → ReadReadings net ws used sent taken
         → ◌≡◌ {A = Figures} (record { number = number; prices = take net.regions prices; flows = take links flows; sent = take points sent; taken = take points taken })
         (figures net (take used ws))
@@ -70,29 +74,31 @@ module _ (net : Network) (ws : List ℕ) where
         let t = metered 5 points taken hr.taken_said hr.taken_room p128 in
         rw (a, b, d, s, t, el, ep)
 
--- what holds of each place, and of the value beyond the end, holds in each part
-every_take : {A : Type 0} (P : A → Type 0) (d : A) (n : ℕ) (xs : List A) → P d → ((k : ℕ) → P (get_or xs k d)) → (k : ℕ) → P (get_or (take n xs) k d)
-every_take P d n xs base h k =
-    ⊎_elim
-    (λ (l : k < n). subst P (sym (get_or-take n xs k d l)) (h k))
-    (λ (l : n ≤ k). subst P (sym (get_or_past (take n xs) k d (omega (arith, length-take n xs)))) base)
-    (cases_lt k n)
-
 between_take : (low high : ℤ) (n : ℕ) (xs : List ℤ) → low ≤ℤ pos 0 → pos 0 ≤ℤ high → Between low high xs → Between low high (take n xs)
 between_take low high n xs a b h = every_take (λ z. (low ≤ℤ z) × (z ≤ℤ high)) (pos 0) n xs (a, b) h
 
 upto_take : (high n : ℕ) (xs : List ℕ) → Upto high xs → Upto high (take n xs)
 upto_take high n xs h = every_take (λ x. x ≤ high) 0 n xs (omega arith) h
 
+-- the energies of readings are in range
+abbrev none : Reading
+none = record { sent = 0; taken = 0; sent_range = omega arith; taken_range = omega arith }
+
+pub sent_upto : (xs : List Reading) → Upto highest_energy (map sent_of xs)
+sent_upto xs k = subst (λ n. n ≤ highest_energy) (sym (get_or-map sent_of xs k none)) (get_or xs k none).sent_range
+
+pub taken_upto : (xs : List Reading) → Upto highest_energy (map taken_of xs)
+taken_upto xs k = subst (λ n. n ≤ highest_energy) (sym (get_or-map taken_of xs k none)) (get_or xs k none).taken_range
+
 pub intervals_in_range : IntervalsInRange
 intervals_in_range g t = record {
   number = t.number_range;
   regions = length-take-le g.region_count t.prices (omega arith);
-  links = length-take-le g.link_count t.flows (omega arith) ∙ sym (links_count g);
-  senders = length-take-le g.point_count t.sent (omega arith) ∙ sym (points_count g);
-  takers = length-take-le g.point_count t.taken (omega arith) ∙ sym (points_count g);
+  links = length-take-le (length (of_grid g).links) t.flows (omega (arith, listed_few g.links));
+  senders = length-take-le (length (of_grid g).points) (map sent_of t.readings) (omega (arith, listed_few g.points, length-map t.readings sent_of, t.reading_slots));
+  takers = length-take-le (length (of_grid g).points) (map taken_of t.readings) (omega (arith, listed_few g.points, length-map t.readings taken_of, t.reading_slots));
   price_range = between_take lowest_price highest_price g.region_count t.prices (le_z_yes tt) (le_z_yes tt) t.price_range;
-  flow_range = between_take lowest_flow highest_flow g.link_count t.flows (le_z_yes tt) (le_z_yes tt) t.flow_range;
-  sent_range = upto_take highest_energy g.point_count t.sent t.sent_range;
-  taken_range = upto_take highest_energy g.point_count t.taken t.taken_range;
+  flow_range = between_take lowest_flow highest_flow (length (of_grid g).links) t.flows (le_z_yes tt) (le_z_yes tt) t.flow_range;
+  sent_range = upto_take highest_energy (length (of_grid g).points) (map sent_of t.readings) (sent_upto t.readings);
+  taken_range = upto_take highest_energy (length (of_grid g).points) (map taken_of t.readings) (taken_upto t.readings);
 }

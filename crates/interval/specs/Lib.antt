@@ -5,3 +5,5 @@ pub mod Spelling
 pub mod Views
 pub mod Laws
 pub mod Steps
+pub mod Kinds
+pub mod Metered

@@ -17,16 +17,16 @@ Passes (Err e) o P = o ≡ Some (told e)
 abbrev pub figure_fault : List ℕ → ℕ → ℕ → ℤ → ℤ → ℕ → Option Refused
 figure_fault ws start k low high i = present ws (start + i) (figure k i (from_to low high) (start + i) (word ws (start + i)))
 
--- the first n words pass, and xs has their figures
-pub record Figured (ws : List ℕ) (start n k : ℕ) (low high : ℤ) (xs : List ℤ) : Type 0 where
-  pub room : length xs ≡ 8
+-- the first n words pass, and xs, of `size` places, has their figures
+pub record Figured (ws : List ℕ) (start n k : ℕ) (low high : ℤ) (size : ℕ) (xs : List ℤ) : Type 0 where
+  pub room : length xs ≡ size
   pub passed : (i : ℕ) → i < n → figure_fault ws start k low high i ≡ None
   pub ranged : Between low high xs
   pub said : (i : ℕ) → i < n → slice_index_or xs i (pos 0) ≡ signed (word ws (start + i))
 
 -- a call on n words: they pass, or the first refusal is told
 abbrev pub FiguresOrFault : Result (List ℤ) Refusal → List ℕ → ℕ → ℕ → ℕ → ℤ → ℤ → Type 0
-FiguresOrFault (Ok xs) ws start n k low high = Figured ws start n k low high xs
+FiguresOrFault (Ok xs) ws start n k low high = Figured ws start n k low high 8 xs
 FiguresOrFault (Err e) ws start n k low high =
     (i : ℕ) × (i < n) × ((j : ℕ) → j < i → figure_fault ws start k low high j ≡ None) × (figure_fault ws start k low high i ≡ Some (told e))
 
@@ -45,7 +45,7 @@ pub record Reached (net : Network) (ws : List ℕ) (j : ℕ) : Type 0 where
 -- the words before and in a run of n figures pass, and xs has these figures
 pub record ReadFigures (net : Network) (ws : List ℕ) (start n k : ℕ) (low high : ℤ) (xs : List ℤ) : Type 0 where
   pub reached : Reached net ws (start + n)
-  pub figured : Figured ws start n k low high xs
+  pub figured : Figured ws start n k low high 8 xs
 
 -- the two lists have the readings of the first n words
 pub record ReadReadings (net : Network) (ws : List ℕ) (n : ℕ) (sent taken : List ℕ) : Type 0 where

@@ -1,5 +1,8 @@
 -- What a loss book means, the bounds that every book keeps, and what each book says.
 use Rattle.std.specs.Prelude.{◌≡◌, ℕ, ◌+◌, ◌-◌, ◌*◌, ◌/◌, ◌≤◌, min, Bool, false, cond, ◌&&◌, List, [], ◌∷◌, ℤ, pos, negsuc, nat_le, nat_lt, unsigned_abs}
+use Rattle.losses.specs.declared.curve.Segment.{Segment}
+use Rattle.losses.specs.declared.direction.Direction.{Direction}
+use Rattle.losses.specs.declared.direction.Direction.TheVariants.{FromRegion1, FromRegion2}
 
 -- the loss in whole kWh of a link at a flow in kWh, which is above 0 from region 1 and below 0 from region 2
 abbrev pub Losses : Type 0
@@ -18,24 +21,19 @@ pub record Bounded (loss : Losses) : Type 0 where
 abbrev pub lossless : Losses
 lossless link flow = 0
 
--- a part of the flow, from the segment before up to an upper end in kWh, with what a kWh of it loses in ten-thousandths
-pub record Segment : Type 0 where
-  pub upper : ℕ
-  pub slope : ℕ
-
 -- slope times length, summed over the segments from `low` up to the size of the flow; the last slope goes on
 abbrev pub along : ℕ → List Segment → ℕ → ℕ
 along low [] size = 0
 along low (s ∷ []) size = s.slope * (size - low)
 along low (s ∷ t ∷ more) size = s.slope * (min size s.upper - low) + along s.upper (t ∷ more) size
 
--- 0 from region 1, 1 from region 2
-abbrev pub direction : ℤ → ℕ
-direction (pos n) = 0
-direction (negsuc n) = 1
+-- the side that a flow comes from
+abbrev pub direction : ℤ → Direction
+direction (pos n) = FromRegion1
+direction (negsuc n) = FromRegion2
 
 -- the losses by the segments of each link in each direction, rounded down
-abbrev pub segmented : (ℕ → ℕ → List Segment) → Losses
+abbrev pub segmented : (ℕ → Direction → List Segment) → Losses
 segmented segments link flow = cond (covered link flow) (along 0 (segments link (direction flow)) (unsigned_abs flow) / 10000) 0
 
 -- the losses by one book for the links below n, and by another for the others

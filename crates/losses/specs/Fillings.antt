@@ -1,16 +1,14 @@
 -- The segments that a book may be filled with, and what a filling leaves.
-use Rattle.std.specs.Prelude.{ℕ, ◌+◌, ◌*◌, Bool, true, cond, ◌&&◌, ◌||◌, List, [], ◌∷◌, ◌++◌, length, Some, None, Option, nat_le, nat_lt, slice_index, slice_index_or, slice_set}
+use Rattle.std.specs.Prelude.{ℕ, ◌+◌, ◌*◌, Bool, true, cond, ◌&&◌, ◌||◌, List, [], ◌∷◌, ◌++◌, length, Some, None, Option, nat_le, nat_lt, slice_index_or, slice_set}
+use Rattle.std.specs.Option.{option_map_or}
 use Rattle.units.specs.Refusals.{unless}
-use Rattle.units.specs.Sums.{tabulate}
-use Rattle.losses.specs.Books.{Segment}
+use Rattle.losses.specs.declared.curve.Segment.{Segment}
+use Rattle.losses.specs.declared.direction.Direction.{Direction}
+use Rattle.losses.specs.Directions.{number, numbered}
 
 -- the segment with an upper end and a slope
 abbrev pub segment : ℕ → ℕ → Segment
 segment upper slope = record { upper = upper; slope = slope }
-
--- the first n segments, from their upper ends and their slopes
-abbrev pub segment_list : ℕ → List ℕ → List ℕ → List Segment
-segment_list n uppers slopes = tabulate n (λ k. segment (slice_index uppers k) (slice_index slopes k))
 
 -- a segment that may follow an upper end `low`
 abbrev pub may_follow : ℕ → Segment → Bool
@@ -36,18 +34,23 @@ abbrev pub Table : Type 0
 Table = List (List Segment)
 
 -- where a table has the segments of a link in a direction
-abbrev pub index : ℕ → ℕ → ℕ
-index link direction = 2 * link + direction
+abbrev pub index : ℕ → Direction → ℕ
+index link direction = 2 * link + number direction
 
 -- the segments of a link in a direction
-abbrev pub segments_at : Table → ℕ → ℕ → List Segment
+abbrev pub segments_at : Table → ℕ → Direction → List Segment
 segments_at table link direction = slice_index_or table (index link direction) []
 
--- the first unfit parameter of a filling: 0 the link, 1 the direction, and from 2 on as of a segment
+-- the first unfit parameter of a filling: 0 the link, 1 the direction's number, and from 2 on as of a segment
 abbrev pub unfit : Table → ℕ → ℕ → ℕ → ℕ → Option ℕ
-unfit table link direction upper slope = cond (nat_lt 7 link) (Some 0) (cond (nat_lt 1 direction) (Some 1) (unfit_segment (segments_at table link direction) upper slope))
+unfit table link n upper slope =
+    cond (nat_lt 7 link) (Some 0) (option_map_or (λ direction. unfit_segment (segments_at table link direction) upper slope) (numbered n) (Some 1))
+
+-- the segments with one more for a link in a direction
+abbrev pub one_more : Table → ℕ → ℕ → ℕ → Direction → Table
+one_more table link upper slope direction = slice_set table (index link direction) (segments_at table link direction ++ (segment upper slope ∷ []))
 
 -- the segments after a filling: one more for the link in the direction, unless it is refused
 abbrev pub filled : Table → ℕ → ℕ → ℕ → ℕ → Table
-filled table link direction upper slope =
-    unless (unfit table link direction upper slope) (slice_set table (index link direction) (segments_at table link direction ++ (segment upper slope ∷ []))) table
+filled table link n upper slope =
+    unless (unfit table link n upper slope) (option_map_or (one_more table link upper slope) (numbered n) table) table

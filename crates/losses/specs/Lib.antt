@@ -1,4 +1,5 @@
 pub mod Books
+pub mod Directions
 pub mod Fillings
 pub mod Views
 pub mod Table

@@ -3,12 +3,14 @@ use Rattle.std.specs.Prelude.{List, map}
 use Rattle.losses.specs.declared.curve.Curve.{Curve}
 use Rattle.losses.specs.declared.segments.Segments.{Segments}
 use Rattle.losses.specs.declared.split.Split.{Split}
-use Rattle.losses.specs.Books.{Losses, Segment, split}
-use Rattle.losses.specs.Fillings.{segment_list, Table}
+use Rattle.losses.specs.declared.curve.Segment.{Segment}
+use Rattle.losses.specs.Books.{Losses, split}
+use Rattle.losses.specs.Fillings.{Table}
+use Rattle.units.specs.FixedLists.{listed}
 
 -- the segments of a curve
 abbrev pub segments : Curve → List Segment
-segments c = segment_list c.count c.uppers c.slopes
+segments c = listed c.segments
 
 -- the segments of a book, curve by curve
 abbrev pub table : Segments → Table

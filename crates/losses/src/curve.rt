@@ -1,17 +1,26 @@
-ghost use Rattle.std.specs.Prelude.{◌≡◌, ◌≤◌, true};
-ghost use Rattle.losses.specs.Fillings.{rising, segment_list};
+ghost use Rattle.std.specs.Prelude.{◌≡◌, true};
+ghost use Rattle.losses.specs.Fillings.{rising};
+ghost use Rattle.units.specs.FixedLists.{listed};
+
+use units::fixed_list::FixedList;
 
 mod calls;
 
 // A slope of 1 in ten-thousandths.
 pub(crate) const WHOLE: u32 = 10_000;
 
-// The segments of one link in one direction: `count` upper ends and slopes.
+const MOST: usize = 8;
+
+// A part of a flow up to an upper end in kWh, with what a kWh of it loses in ten-thousandths.
+#[derive(Clone, Copy, Default, PartialEq, Eq)]
+pub(crate) struct Segment {
+    upper: u32,
+    slope: u32,
+}
+
+// The segments of one link in one direction.
 #[derive(Clone, Copy)]
 pub(crate) struct Curve {
-    uppers: [u32; 8],
-    slopes: [u32; 8],
-    count: usize,
-    ghost few: { count ≤ 8 },
-    ghost sound: { rising 0 (segment_list count uppers slopes) ≡ true },
+    segments: FixedList<Segment, MOST>,
+    ghost sound: { rising 0 (listed segments) ≡ true },
 }

@@ -1,5 +1,5 @@
--- The ranges of an entry's fields, and a point's factor.
-use Rattle.std.specs.Prelude.{ℕ, suc, ◌+◌, ◌*◌, ◌/◌, Bool, cond, not, ◌&&◌, List, [], ◌∷◌, is_some, Some, None, Option, ◌==◌, nat_le}
+-- The ranges of an entry's fields, the asset that a field names, and a point's factor.
+use Rattle.std.specs.Prelude.{ℕ, zero, suc, ◌+◌, ◌*◌, ◌/◌, Bool, cond, not, ◌&&◌, List, [], ◌∷◌, is_some, Some, None, Option, ◌==◌, nat_le}
 use Rattle.register.specs.declared.entry.Region.{Region}
 use Rattle.register.specs.declared.entry.Corridor.{Corridor}
 use Rattle.register.specs.declared.entry.Link.{Link}
@@ -35,6 +35,11 @@ point_unfit p = first_out 0 (nat_le p.region 7 ∷ nat_le p.dna 8 ∷ between 50
 
 abbrev pub dna_unfit : Dna → Option ℕ
 dna_unfit d = first_out 0 (nat_le d.region 7 ∷ nat_le d.downstream 8 ∷ between 5000 15000 d.boundary ∷ [])
+
+-- the asset that a field names: the field is the asset's number plus one, or 0 for none
+abbrev pub numbered : ℕ → Option ℕ
+numbered zero = None
+numbered (suc n) = Some n
 
 -- a point's factor: the product of its two factors in ten-thousandths, to the nearest whole, halves up
 abbrev pub factor : Point → ℕ

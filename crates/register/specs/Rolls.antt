@@ -1,5 +1,5 @@
 -- A roll: what it holds, and what one more entry answers and makes of that.
-use Rattle.std.specs.Prelude.{ℕ, ◌≤◌, Bool, cond, ◌&&◌, List, [], ◌∷◌, ◌++◌, length, take, drop, Some, None, Option, nat_lt}
+use Rattle.std.specs.Prelude.{ℕ, Bool, cond, ◌&&◌, List, [], ◌∷◌, ◌++◌, length, take, drop, Some, None, Option, nat_lt}
 use Rattle.units.specs.Refusals.{refused, Answer, done, turned_down}
 use Rattle.units.specs.declared.refusal.Layer.TheVariants.{Register}
 use Rattle.register.specs.declared.roll.Roll.{Roll}
@@ -9,7 +9,7 @@ pub record Held (E : Type 0) : Type 0 where
   pub entries : List E
   pub room : ℕ
 
-abbrev pub held : {E : Type 0} → Roll E → Held E
+abbrev pub held : {E : Type 0} {entry : _} → Roll E entry → Held E
 held roll = record { entries = take roll.count roll.slots.now; room = length roll.slots.now }
 
 abbrev pub empty : {E : Type 0} → ℕ → Held E
@@ -17,10 +17,6 @@ empty room = record { entries = []; room = room }
 
 abbrev pub size : {E : Type 0} → Held E → ℕ
 size h = length h.entries
-
--- the entries are in the memory, and at most `most`
-abbrev pub Within : {E : Type 0} → ℕ → Roll E → Type 0
-Within most roll = (roll.count ≤ length roll.slots.now) × (roll.count ≤ most)
 
 -- one more entry goes in, where `most` is the greatest number of entries of the kind
 abbrev pub open_to : {E : Type 0} → ℕ → Held E → Bool

@@ -1,10 +1,10 @@
 // The register: five rolls, each over memory of the caller's.
-ghost use Rattle.register.specs.Rolls.{Within};
+ghost use Rattle.std.specs.Prelude.{◌≡◌, length};
+ghost use Rattle.register.specs.Rolls.{empty};
+ghost use Rattle.register.specs.Contents.{contents};
 
 use crate::entry::{Corridor, Dna, Link, Point, Region};
 use crate::roll::Roll;
-
-mod calls;
 
 #[derive(Drop)]
 pub struct Register<'a> {
@@ -13,9 +13,29 @@ pub struct Register<'a> {
     pub links: Roll<'a, Link>,
     pub points: Roll<'a, Point>,
     pub dnas: Roll<'a, Dna>,
-    ghost few_regions: { Within 8 regions },
-    ghost few_corridors: { Within 8 corridors },
-    ghost few_links: { Within 8 links },
-    ghost few_points: { Within 128 points },
-    ghost few_dnas: { Within 8 dnas },
+}
+
+impl<'a> Register<'a> {
+    // An empty register, whatever the memory holds.
+    pub fn new(
+        regions: &'a mut [Region],
+        corridors: &'a mut [Corridor],
+        links: &'a mut [Link],
+        points: &'a mut [Point],
+        dnas: &'a mut [Dna],
+    ) -> Self
+        ensures regions { (contents result).regions ≡ empty (length regions.old) }
+        ensures corridors { (contents result).corridors ≡ empty (length corridors.old) }
+        ensures links { (contents result).links ≡ empty (length links.old) }
+        ensures points { (contents result).points ≡ empty (length points.old) }
+        ensures dnas { (contents result).dnas ≡ empty (length dnas.old) }
+    {
+        Register {
+            regions: Roll::new(regions),
+            corridors: Roll::new(corridors),
+            links: Roll::new(links),
+            points: Roll::new(points),
+            dnas: Roll::new(dnas),
+        }
+    }
 }

@@ -1,5 +1,5 @@
 // What a script has at hand beside the register: the loss book and the sharing rule.
-use crate::script::{BookKind, BookPlan, RuleKind, RulePlan};
+use crate::script::{BookKind, BookPlan, Derogations, Part, RuleKind, RulePlan};
 use chosen::book::AnyBook;
 use chosen::rule::{AnyRule, Pile};
 use losses::lossless::Lossless;
@@ -13,6 +13,12 @@ use units::refusal::Refusal;
 
 pub type Book = Split<AnyBook, Split<AnyBook, AnyBook>>;
 
+// A part without links.
+const NONE: Part = Part {
+    below: 0,
+    kind: BookKind::Lossless,
+};
+
 #[derive(Drop)]
 pub struct Desk {
     pub segments: Segments,
@@ -24,13 +30,7 @@ impl Desk {
     pub fn new() -> Desk {
         Desk {
             segments: Segments::new(),
-            plan: BookPlan {
-                low: 8,
-                first: BookKind::Lossless,
-                high: 8,
-                second: BookKind::Lossless,
-                third: BookKind::Lossless,
-            },
+            plan: BookPlan::Whole(BookKind::Lossless),
             rule: Pile::Plain(AnyRule::Equal(Equal::new())),
         }
     }
@@ -44,15 +44,15 @@ impl Desk {
 
     // The book at hand.
     pub fn book(&self) -> Book {
-        let plan = self.plan;
+        let (low, high, last) = match self.plan {
+            BookPlan::Whole(last) => (NONE, NONE, last),
+            BookPlan::Split(low, last) => (low, NONE, last),
+            BookPlan::SplitTwice(low, high, last) => (low, high, last),
+        };
         Split::new(
-            plan.low,
-            self.any_book(plan.first),
-            Split::new(
-                plan.high,
-                self.any_book(plan.second),
-                self.any_book(plan.third),
-            ),
+            low.below,
+            self.any_book(low.kind),
+            Split::new(high.below, self.any_book(high.kind), self.any_book(last)),
         )
     }
 }
@@ -60,11 +60,11 @@ impl Desk {
 fn filled(kind: RuleKind, numbers: &[u32]) -> Result<AnyRule, Refusal> {
     match kind {
         RuleKind::Equal => {
+            let [owners] = numbers else {
+                return Err(Refusal::Unfit(0));
+            };
             let mut rule = Equal::new();
-            match numbers {
-                [owners] => rule.fill(*owners)?,
-                _ => return Err(Refusal::Unfit(0)),
-            }
+            rule.fill(*owners)?;
             Ok(AnyRule::Equal(rule))
         }
         RuleKind::Running => {
@@ -83,12 +83,11 @@ fn filled(kind: RuleKind, numbers: &[u32]) -> Result<AnyRule, Refusal> {
 // The rule of a plan, or the refusal of its filling.
 pub fn piled(plan: &RulePlan) -> Result<Pile, Refusal> {
     let rule = filled(plan.kind, plan.numbers.as_slice())?;
-    let [top, next] = plan.parts;
-    if plan.piled == 0 {
-        Ok(Pile::Plain(rule))
-    } else if plan.piled == 1 {
-        Ok(Pile::Once(Derogation::new(top, rule)))
-    } else {
-        Ok(Pile::Twice(Derogation::new(top, Derogation::new(next, rule))))
-    }
+    Ok(match plan.derogations {
+        Derogations::None => Pile::Plain(rule),
+        Derogations::One(part) => Pile::Once(Derogation::new(part, rule)),
+        Derogations::Two(top, next) => {
+            Pile::Twice(Derogation::new(top, Derogation::new(next, rule)))
+        }
+    })
 }

@@ -7,32 +7,18 @@ use std::io;
 use std::process::ExitCode;
 
 mod desk;
+mod figures;
 mod report;
 mod run;
 mod script;
 
-// Runs the lines from `start` on with an empty box, and answers where the next one begins.
-fn run_box(rt: &HostRuntime, lines: &[&str], start: usize) -> anyhow::Result<usize> {
-    let mut regions = [Region { code: 0 }; 8];
-    let mut corridors = [Corridor {
-        region1: 0,
-        region2: 0,
-    }; 8];
-    let mut links = [Link {
-        corridor: 0,
-        part1: 0,
-    }; 8];
-    let mut points = [Point {
-        region: 0,
-        dna: 0,
-        marginal: 0,
-        distribution: 0,
-    }; 128];
-    let mut dnas = [Dna {
-        region: 0,
-        downstream: 0,
-        boundary: 0,
-    }; 8];
+// Runs the lines, with their numbers, over an empty box.
+fn run_box(rt: &HostRuntime, lines: &[(usize, &str)]) -> anyhow::Result<()> {
+    let mut regions = [Region::default(); 8];
+    let mut corridors = [Corridor::default(); 8];
+    let mut links = [Link::default(); 8];
+    let mut points = [Point::default(); 128];
+    let mut dnas = [Dna::default(); 8];
     let mut register = Register::new(
         &mut regions,
         &mut corridors,
@@ -40,20 +26,18 @@ fn run_box(rt: &HostRuntime, lines: &[&str], start: usize) -> anyhow::Result<usi
         &mut points,
         &mut dnas,
     );
-    run::lines(rt, &mut register, lines, start)
+    run::lines(rt, &mut register, lines)
 }
 
+// Each `clear` ends the lines of a box.
 fn settle(rt: &HostRuntime) -> anyhow::Result<()> {
     let text = io::read_to_string(rt.alloc(), rt.stdin())?;
-    let mut lines = Vec::new(rt.alloc());
-    for line in text.as_str().lines() {
-        lines.push(line)?;
-    }
-    let mut start = 0;
-    for _ in 0..lines.len() {
-        if start < lines.len() {
-            start = run_box(rt, lines.as_slice(), start)?;
-        }
+    let lines: Vec<(usize, &str)> = (1..).zip(text.as_str().lines()).collect(rt.alloc())?;
+    for of_box in lines
+        .as_slice()
+        .split_inclusive(|(_, line)| script::clears(line))
+    {
+        run_box(rt, of_box)?;
     }
     Ok(())
 }
@@ -62,7 +46,7 @@ fn main(rt: HostRuntime) -> io::Result<ExitCode> {
     match settle(&rt) {
         Ok(()) => Ok(ExitCode::SUCCESS),
         Err(e) => {
-            eprintln!(rt; "settle: {e}")?;
+            eprintln!(rt; "settle: {e:#}")?;
             Ok(ExitCode::FAILURE)
         }
     }

@@ -1,7 +1,10 @@
 // The commands of a script: a line is a command with its words, and `#` starts a comment.
+use crate::figures::interval_words;
 use register::entry::{Corridor, Dna, Link, Point, Region};
-use std::alloc::{AllocError, AllocFailed, Global};
-use std::fmt;
+use std::alloc::{AllocError, Global};
+use std::num::ParseIntError;
+use std::str::{FromStr, SplitWhitespace};
+use thiserror::Error;
 
 // A kind of loss book.
 #[derive(Clone, Copy)]
@@ -10,14 +13,19 @@ pub enum BookKind {
     Segments,
 }
 
-// Which book serves which links: `first` the links below `low`, `second` those below `high`, `third` the others.
+// The book of the links below a number that no part before it has.
 #[derive(Clone, Copy)]
-pub struct BookPlan {
-    pub low: u32,
-    pub first: BookKind,
-    pub high: u32,
-    pub second: BookKind,
-    pub third: BookKind,
+pub struct Part {
+    pub below: u32,
+    pub kind: BookKind,
+}
+
+// Which book serves which links: those of the parts, and another the links that are left.
+#[derive(Clone, Copy)]
+pub enum BookPlan {
+    Whole(BookKind),
+    Split(Part, BookKind),
+    SplitTwice(Part, Part, BookKind),
 }
 
 #[derive(Clone, Copy)]
@@ -27,13 +35,29 @@ pub enum RuleKind {
     Nearest,
 }
 
-// A rule with its numbers, under `piled` derogations, of which the first is on top.
+// The parts of the derogations on a rule, from the top.
+#[derive(Clone, Copy)]
+pub enum Derogations {
+    None,
+    One(u32),
+    Two(u32, u32),
+}
+
+// A rule with its numbers, under its derogations.
 #[derive(Drop)]
 pub struct RulePlan {
-    pub piled: usize,
-    pub parts: [u32; 2],
+    pub derogations: Derogations,
     pub kind: RuleKind,
     pub numbers: Vec<u32>,
+}
+
+// A segment for a link in a direction.
+#[derive(Clone, Copy)]
+pub struct Segment {
+    pub link: u32,
+    pub direction: u32,
+    pub upper: u32,
+    pub slope: u32,
 }
 
 #[derive(Drop)]
@@ -47,43 +71,55 @@ pub enum Command {
     Check,
     Clear,
     Book(BookPlan),
-    Segment(u32, u32, u32, u32),
+    Segment(Segment),
     Flows(Vec<u32>),
     Rule(RulePlan),
     Share(i64),
     Read(Vec<u32>),
-    Try(Option<Fault>),
+    Try(Result<(), Fault>),
 }
 
 // Why a line is no command.
-#[derive(Clone, Copy)]
+#[derive(Debug, Drop, Error)]
 pub enum Fault {
+    #[error("unknown command")]
     UnknownCommand,
+    #[error("wrong number of words")]
     WordCount,
+    #[error("not a number, or one that does not fit")]
     BadNumber,
-    Memory,
+    #[error("out of memory")]
+    Memory(#[from(alloc)] AllocError),
 }
 
-impl fmt::Display for Fault {
-    fn fmt<W: fmt::Write>(&self, f: &mut fmt::Formatter<W>) -> fmt::Result {
-        f.write_str(match self {
-            Fault::UnknownCommand => "unknown command",
-            Fault::WordCount => "wrong number of words",
-            Fault::BadNumber => "not a number, or one that does not fit",
-            Fault::Memory => "out of memory",
-        })
+impl From<ParseIntError> for Fault {
+    fn from(_e: ParseIntError) -> Fault {
+        Fault::BadNumber
     }
 }
 
-impl From<AllocError> for Fault {
-    fn from(_e: AllocError) -> Fault {
-        Fault::Memory
+impl FromStr for BookKind {
+    type Err = Fault;
+
+    fn from_str(word: &str) -> Result<BookKind, Fault> {
+        match word {
+            "lossless" => Ok(BookKind::Lossless),
+            "segments" => Ok(BookKind::Segments),
+            _ => Err(Fault::UnknownCommand),
+        }
     }
 }
 
-impl<T: Drop> From<AllocFailed<T>> for Fault {
-    fn from(_e: AllocFailed<T>) -> Fault {
-        Fault::Memory
+impl FromStr for RuleKind {
+    type Err = Fault;
+
+    fn from_str(word: &str) -> Result<RuleKind, Fault> {
+        match word {
+            "equal" => Ok(RuleKind::Equal),
+            "running" => Ok(RuleKind::Running),
+            "nearest" => Ok(RuleKind::Nearest),
+            _ => Err(Fault::UnknownCommand),
+        }
     }
 }
 
@@ -91,20 +127,9 @@ impl<T: Drop> From<AllocFailed<T>> for Fault {
 fn number(word: &str) -> Result<u32, Fault> {
     let read = match word.strip_prefix("0x") {
         Some(digits) => u32::from_str_radix(digits, 16),
-        None => word.parse::<u32>(),
+        None => word.parse(),
     };
-    match read {
-        Ok(n) => Ok(n),
-        Err(_) => Err(Fault::BadNumber),
-    }
-}
-
-// A decimal number with a sign.
-fn signed(word: &str) -> Result<i64, Fault> {
-    match word.parse::<i64>() {
-        Ok(n) => Ok(n),
-        Err(_) => Err(Fault::BadNumber),
-    }
+    Ok(read?)
 }
 
 fn numbers(heap: Global, words: &[&str]) -> Result<Vec<u32>, Fault> {
@@ -115,13 +140,41 @@ fn numbers(heap: Global, words: &[&str]) -> Result<Vec<u32>, Fault> {
     Ok(all)
 }
 
-// The command of a line; a line of blanks and comment alone is `Nothing`.
-pub fn parse(heap: Global, line: &str) -> Result<Command, Fault> {
+// The numbers of a command that takes N.
+fn fields<const N: usize>(words: &[&str]) -> Result<[u32; N], Fault> {
+    if words.len() != N {
+        return Err(Fault::WordCount);
+    }
+    let mut fields = [0; N];
+    for (field, word) in fields.iter_mut().zip(words) {
+        *field = number(word)?;
+    }
+    Ok(fields)
+}
+
+// The words of a line, without its comment.
+fn words(line: &str) -> SplitWhitespace<'_> {
     let text = match line.split_once('#') {
         Some((before, _)) => before,
         None => line,
     };
-    let words: Vec<&str> = text.split_whitespace().collect(heap)?;
+    text.split_whitespace()
+}
+
+// The word that a line begins with, which is its command's name.
+pub fn name(line: &str) -> &str {
+    words(line).next().unwrap_or("")
+}
+
+// Whether a line is the command `clear`.
+pub fn clears(line: &str) -> bool {
+    let mut words = words(line);
+    words.next() == Some("clear") && words.next().is_none()
+}
+
+// The command of a line; a line of blanks and comment alone is `Nothing`.
+pub fn parse(heap: Global, line: &str) -> Result<Command, Fault> {
+    let words: Vec<&str> = words(line).collect(heap)?;
     match words.as_slice() {
         [] => Ok(Command::Nothing),
         ["try", rest @ ..] => Ok(Command::Try(tried(heap, rest))),
@@ -129,15 +182,12 @@ pub fn parse(heap: Global, line: &str) -> Result<Command, Fault> {
     }
 }
 
-// The fault of words that are no command, or none.
-fn tried(heap: Global, words: &[&str]) -> Option<Fault> {
-    let [name, rest @ ..] = words else {
-        return None;
-    };
-    match named(heap, name, rest) {
-        Ok(_) => None,
-        Err(fault) => Some(fault),
+// What is wrong with words that are tried.
+fn tried(heap: Global, words: &[&str]) -> Result<(), Fault> {
+    if let [name, rest @ ..] = words {
+        named(heap, name, rest)?;
     }
+    Ok(())
 }
 
 fn named(heap: Global, name: &str, words: &[&str]) -> Result<Command, Fault> {
@@ -149,10 +199,10 @@ fn named(heap: Global, name: &str, words: &[&str]) -> Result<Command, Fault> {
         "dna" => read_dna(words),
         "check" => alone(words, Command::Check),
         "clear" => alone(words, Command::Clear),
-        "book" => read_book(words),
+        "book" => Ok(Command::Book(read_book(words)?)),
         "segment" => read_segment(words),
-        "flows" => read_flows(heap, words),
-        "rule" => read_rule(heap, words),
+        "flows" => Ok(Command::Flows(interval_words(heap, words)?)),
+        "rule" => Ok(Command::Rule(read_rule(heap, words)?)),
         "share" => read_share(words),
         "read" => Ok(Command::Read(numbers(heap, words)?)),
         _ => Err(Fault::UnknownCommand),
@@ -160,54 +210,46 @@ fn named(heap: Global, name: &str, words: &[&str]) -> Result<Command, Fault> {
 }
 
 fn read_region(words: &[&str]) -> Result<Command, Fault> {
-    let [code] = words else {
-        return Err(Fault::WordCount);
-    };
-    Ok(Command::Region(Region {
-        code: number(code)?,
-    }))
+    let [code] = fields::<1>(words)?;
+    Ok(Command::Region(Region { code }))
 }
 
 fn read_corridor(words: &[&str]) -> Result<Command, Fault> {
-    let [region1, region2] = words else {
-        return Err(Fault::WordCount);
-    };
-    Ok(Command::Corridor(Corridor {
-        region1: number(region1)?,
-        region2: number(region2)?,
-    }))
+    let [region1, region2] = fields::<2>(words)?;
+    Ok(Command::Corridor(Corridor { region1, region2 }))
 }
 
 fn read_link(words: &[&str]) -> Result<Command, Fault> {
-    let [corridor, part1] = words else {
-        return Err(Fault::WordCount);
-    };
-    Ok(Command::Link(Link {
-        corridor: number(corridor)?,
-        part1: number(part1)?,
-    }))
+    let [corridor, part1] = fields::<2>(words)?;
+    Ok(Command::Link(Link { corridor, part1 }))
 }
 
 fn read_point(words: &[&str]) -> Result<Command, Fault> {
-    let [region, dna, marginal, distribution] = words else {
-        return Err(Fault::WordCount);
-    };
+    let [region, dna, marginal, distribution] = fields::<4>(words)?;
     Ok(Command::Point(Point {
-        region: number(region)?,
-        dna: number(dna)?,
-        marginal: number(marginal)?,
-        distribution: number(distribution)?,
+        region,
+        dna,
+        marginal,
+        distribution,
     }))
 }
 
 fn read_dna(words: &[&str]) -> Result<Command, Fault> {
-    let [region, downstream, boundary] = words else {
-        return Err(Fault::WordCount);
-    };
+    let [region, downstream, boundary] = fields::<3>(words)?;
     Ok(Command::Dna(Dna {
-        region: number(region)?,
-        downstream: number(downstream)?,
-        boundary: number(boundary)?,
+        region,
+        downstream,
+        boundary,
+    }))
+}
+
+fn read_segment(words: &[&str]) -> Result<Command, Fault> {
+    let [link, direction, upper, slope] = fields::<4>(words)?;
+    Ok(Command::Segment(Segment {
+        link,
+        direction,
+        upper,
+        slope,
     }))
 }
 
@@ -220,135 +262,55 @@ fn alone(words: &[&str], command: Command) -> Result<Command, Fault> {
     }
 }
 
-fn book_kind(word: &str) -> Result<BookKind, Fault> {
-    match word {
-        "lossless" => Ok(BookKind::Lossless),
-        "segments" => Ok(BookKind::Segments),
-        _ => Err(Fault::UnknownCommand),
-    }
-}
-
-// `lossless`, `segments`, `split N KIND KIND`, or a split whose second book is a split.
-fn read_book(words: &[&str]) -> Result<Command, Fault> {
-    let mut plan = BookPlan {
-        low: 8,
-        first: BookKind::Lossless,
-        high: 8,
-        second: BookKind::Lossless,
-        third: BookKind::Lossless,
-    };
-    if words.len() == 1 {
-        plan.first = book_kind(words[0])?;
-        return Ok(Command::Book(plan));
-    }
-    if words.len() != 4 && words.len() != 7 {
-        return Err(Fault::WordCount);
-    }
-    plan.low = split_at(words[0], words[1])?;
-    plan.first = book_kind(words[2])?;
-    if words.len() == 4 {
-        plan.second = book_kind(words[3])?;
-    } else {
-        plan.high = split_at(words[3], words[4])?;
-        plan.second = book_kind(words[5])?;
-        plan.third = book_kind(words[6])?;
-    }
-    Ok(Command::Book(plan))
-}
-
-// The number of a `split N`.
-fn split_at(name: &str, at: &str) -> Result<u32, Fault> {
-    if name == "split" {
-        number(at)
-    } else {
-        Err(Fault::UnknownCommand)
-    }
-}
-
-fn read_segment(words: &[&str]) -> Result<Command, Fault> {
-    let [link, direction, upper, slope] = words else {
-        return Err(Fault::WordCount);
-    };
-    Ok(Command::Segment(
-        number(link)?,
-        number(direction)?,
-        number(upper)?,
-        number(slope)?,
-    ))
-}
-
 fn read_share(words: &[&str]) -> Result<Command, Fault> {
     let [amount] = words else {
         return Err(Fault::WordCount);
     };
-    Ok(Command::Share(signed(amount)?))
+    Ok(Command::Share(amount.parse()?))
 }
 
-// A figure of a region or link in an interval word: the kind and the number above it, 24 bits in two's complement.
-fn figure_word(kind: u32, i: usize, word: &str) -> Result<u32, Fault> {
-    let value = signed(word)?;
-    if value < -0x80_0000 || value > 0x7f_ffff || i > 15 || kind > 15 {
-        return Err(Fault::BadNumber);
-    }
-    let low = value.rem_euclid(0x100_0000) as u32;
-    Ok((kind << 28) + ((i as u32) << 24) + low)
-}
-
-// Appends the words of one kind of figures.
-fn push_figures(words: &mut Vec<u32>, kind: u32, figures: &[&str]) -> Result<(), Fault> {
-    for (i, figure) in figures.iter().enumerate() {
-        words.push(figure_word(kind, i, figure)?)?;
-    }
-    Ok(())
-}
-
-// `flows F.. prices P..`, as the words of an interval without readings.
-fn read_flows(heap: Global, words: &[&str]) -> Result<Command, Fault> {
-    let mut split = words.len();
-    for (i, word) in words.iter().enumerate() {
-        if *word == "prices" && i < split {
-            split = i;
+// `lossless`, `segments`, `split N KIND KIND`, or a split whose second book is a split.
+fn read_book(words: &[&str]) -> Result<BookPlan, Fault> {
+    match words {
+        [last] => Ok(BookPlan::Whole(last.parse()?)),
+        [split, below, kind, last] => {
+            Ok(BookPlan::Split(read_part(split, below, kind)?, last.parse()?))
         }
+        [split, low, first, again, high, second, last] => Ok(BookPlan::SplitTwice(
+            read_part(split, low, first)?,
+            read_part(again, high, second)?,
+            last.parse()?,
+        )),
+        _ => Err(Fault::WordCount),
     }
-    if split >= words.len() || words.len() > 33 {
-        return Err(Fault::WordCount);
-    }
-    let mut all = Vec::new(heap);
-    all.push(0x1000_0000)?;
-    push_figures(&mut all, 2, &words[split + 1..])?;
-    push_figures(&mut all, 3, &words[0..split])?;
-    all.push(0x6000_0000 + words.len() as u32)?;
-    Ok(Command::Flows(all))
 }
 
-fn rule_kind(word: &str) -> Result<RuleKind, Fault> {
-    match word {
-        "equal" => Ok(RuleKind::Equal),
-        "running" => Ok(RuleKind::Running),
-        "nearest" => Ok(RuleKind::Nearest),
-        _ => Err(Fault::UnknownCommand),
+// `split N KIND`
+fn read_part(split: &str, below: &str, kind: &str) -> Result<Part, Fault> {
+    if split != "split" {
+        return Err(Fault::UnknownCommand);
     }
+    Ok(Part {
+        below: number(below)?,
+        kind: kind.parse()?,
+    })
 }
 
 // A kind with its numbers, after none, one or two `derogation P`.
-fn read_rule(heap: Global, words: &[&str]) -> Result<Command, Fault> {
-    let mut parts = [0; 2];
-    let mut piled = 0;
-    for i in 0..2usize {
-        if piled == i && words.len() > 2 * i + 1 && words[2 * i] == "derogation" {
-            parts[i] = number(words[2 * i + 1])?;
-            piled = i + 1;
+fn read_rule(heap: Global, words: &[&str]) -> Result<RulePlan, Fault> {
+    let (derogations, rest) = match words {
+        ["derogation", top, "derogation", next, rest @ ..] => {
+            (Derogations::Two(number(top)?, number(next)?), rest)
         }
-    }
-    if words.len() <= 2 * piled {
+        ["derogation", part, rest @ ..] => (Derogations::One(number(part)?), rest),
+        rest => (Derogations::None, rest),
+    };
+    let [kind, rest @ ..] = rest else {
         return Err(Fault::WordCount);
-    }
-    let kind = rule_kind(words[2 * piled])?;
-    let numbers = numbers(heap, &words[2 * piled + 1..])?;
-    Ok(Command::Rule(RulePlan {
-        piled,
-        parts,
-        kind,
-        numbers,
-    }))
+    };
+    Ok(RulePlan {
+        derogations,
+        kind: kind.parse()?,
+        numbers: numbers(heap, rest)?,
+    })
 }

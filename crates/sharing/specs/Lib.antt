@@ -10,3 +10,4 @@ pub mod NearestLaws
 pub mod Parts
 pub mod Ranks
 pub mod RunningLaws
+pub mod WeightedLaws

@@ -11,6 +11,7 @@ use Rattle.units.proofs.Floors.{floor_rest, rest_lt}
 use Rattle.sharing.specs.Rules.{Lawful}
 use Rattle.sharing.specs.Weighted.{nearest, down, remainder, odd_cents, sooner}
 use Rattle.sharing.specs.Within.{lawful}
+use Rattle.sharing.specs.WeightedLaws.{some_owner}
 use Rattle.sharing.specs.Parts.{odd_cents_some, odd_cents_are}
 use Rattle.sharing.specs.Ranks.{one, tally_mono, rank, Order, ranks_below}
 
@@ -67,7 +68,7 @@ module _ (n : ℕ) (w : ℕ → ℕ) (some : 1 ≤ n) (part : 1 ≤ sum n w) (a 
   pub odd_is : a -ℤ total n below ≡ pos odd
   odd_is = pos-nat_abs (a -ℤ total n below) (odd_cents_some n w d some part refl a)
 
-  odd_rests : (odd ≤ n - 1) × (odd * d ≡ sum n left)
+  pub odd_rests : (odd ≤ n - 1) × (odd * d ≡ sum n left)
   odd_rests = odd_cents_are n w d some part refl a odd odd_is
 
   adds_up : total n (λ k. below k +ℤ cond (gets k) (pos 1) (pos 0)) ≡ a
@@ -95,8 +96,8 @@ module _ (n : ℕ) (w : ℕ → ℕ) (some : 1 ≤ n) (part : 1 ≤ sum n w) (a 
       (λ g. simp spread (omega (arith, ints, gets_rest k g)))
       (λ g. simp spread (omega (arith, ints)))
 
-pub nearest_lawful : (n : ℕ) (w : ℕ → ℕ) → 1 ≤ n → 1 ≤ sum n w → Lawful (nearest n w)
-nearest_lawful n w some part = lawful n w (sum n w) 1 _ (record {
+pub nearest_lawful : (n : ℕ) (w : ℕ → ℕ) → 1 ≤ sum n w → Lawful (nearest n w)
+nearest_lawful n w part = let some : 1 ≤ n = some_owner n w part in lawful n w (sum n w) 1 _ (record {
   some_owner = some;
   some_part = part;
   whole = refl;

@@ -1,12 +1,12 @@
 -- The parts of an amount by weights, each rounded down: the odd cents that this leaves are what the rests come to.
-use Rattle.std.specs.Prelude.{◌≡◌, ℕ, ◌-◌, ◌*◌, ◌<◌, ◌≤◌, ℤ, pos, ◌+ℤ◌, ◌-ℤ◌, ◌*ℤ◌, ◌≤ℤ◌, FitsSigned, unsigned_abs}
+use Rattle.std.specs.Prelude.{◌≡◌, ℕ, ◌-◌, ◌*◌, ◌<◌, ◌≤◌, ℤ, pos, ◌+ℤ◌, ◌-ℤ◌, ◌*ℤ◌, ◌≤ℤ◌, unsigned_abs}
 use Rattle.std.proofs.Common.{ap, ◌∙◌, lt_of_mul-lt-mul_right, arith, lit<, to_z, of_z}
 use Rattle.std.proofs.Math.IntN.{zero-*ℤ}
 use Rattle.std.specs.Int.{w64}
 use Rattle.std.proofs.lemmas.Int.{ints}
 use Rattle.units.specs.Sums.{total, sum}
 use Rattle.units.specs.Floor.{floor}
-use Rattle.units.proofs.Fits.{small_back, product_size, product_fits, product_back}
+use Rattle.units.proofs.Fits.{small_back, product_size, product_back}
 use Rattle.units.proofs.Ring.{*ℤ_distrib_right_sub, *ℤ_cancel_le}
 use Rattle.units.proofs.Totals.{total_ext, total_add, total_scale, total_scale_left, total_pos, sum_mono_lt, sum_const}
 use Rattle.units.proofs.Floors.{floor_rest, rest_lt, floor_zero, floor_bound}
@@ -28,9 +28,6 @@ module _ (a : ℤ) (n : ℕ) (b : ℤ) (cast : b ≡ pos n) (small : unsigned_ab
   n_back : to_z w64 (of_z w64 b) ≡ pos n
   n_back = ap (λ z. to_z w64 (of_z w64 z)) cast ∙ small_back (pos n) (omega arith)
 
-  pub times_fits : FitsSigned w64 (to_z w64 (of_z w64 a) *ℤ to_z w64 (of_z w64 b))
-  times_fits = product_fits _ _ a (pos n) limit 1000000 a_back n_back small few (lit< tt)
-
   pub times_back : to_z w64 (of_z w64 (to_z w64 (of_z w64 a) *ℤ to_z w64 (of_z w64 b))) ≡ a *ℤ pos n
   times_back = product_back _ _ a (pos n) limit 1000000 a_back n_back small few (lit< tt)
 
@@ -50,7 +47,7 @@ module _ (n : ℕ) (w : ℕ → ℕ) (d : ℕ) (some : 1 ≤ n) (part : 1 ≤ d)
       let rests = total_add n (λ k. down k *ℤ pos d) (λ k. pos (left k)) in
       omega (arith, ints, parts_add_up, total_scale n down (pos d), total_pos n left, *ℤ_distrib_right_sub a (total n down) (pos d))
 
-  rests_few : sum n left < n * d
+  pub rests_few : sum n left < n * d
   rests_few = omega (arith, sum_const n d, sum_mono_lt n 0 left (λ _. d) some (rest_lt d part (a *ℤ pos (w 0))) (λ k _. omega (arith, rest_lt d part (a *ℤ pos (w k)))))
 
   -- rounding down takes no cent too many

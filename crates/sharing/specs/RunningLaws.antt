@@ -11,8 +11,9 @@ use Rattle.units.proofs.Floors.{floor_le, floor_next, floor_zero, floor_multiple
 use Rattle.sharing.specs.Rules.{Lawful}
 use Rattle.sharing.specs.Weighted.{upto, running, equal}
 use Rattle.sharing.specs.Within.{lawful}
+use Rattle.sharing.specs.WeightedLaws.{some_owner}
 
-module _ (n : ℕ) (w : ℕ → ℕ) (some : 1 ≤ n) (part : 1 ≤ sum n w) where
+module _ (n : ℕ) (w : ℕ → ℕ) (part : 1 ≤ sum n w) where
   upto_none : (a : ℤ) → upto n w a 0 ≡ pos 0
   upto_none a = ap (λ z. floor z (sum n w)) (*ℤ-zero a) ∙ floor_zero (sum n w)
 
@@ -31,14 +32,14 @@ module _ (n : ℕ) (w : ℕ → ℕ) (some : 1 ≤ n) (part : 1 ≤ sum n w) whe
 
   pub running_lawful : Lawful (running n w)
   running_lawful = lawful n w (sum n w) 1 _ (record {
-    some_owner = some;
+    some_owner = some_owner n w part;
     some_part = part;
     whole = refl;
     adds_up = λ a _. running_adds_up a;
     near = λ a _ k _. running_near a k;
     slack_low = omega arith;
-    slack_high = some;
+    slack_high = some_owner n w part;
   })
 
 pub equal_lawful : (n : ℕ) → 1 ≤ n → Lawful (equal n)
-equal_lawful n some = running_lawful n (λ _. 1) some (omega (arith, sum_const n 1))
+equal_lawful n some = running_lawful n (λ _. 1) (omega (arith, sum_const n 1))

@@ -18,8 +18,11 @@ abbrev pub upto : ℕ → (ℕ → ℕ) → ℤ → ℕ → ℤ
 upto owners weight a k = part_down a (sum k weight) (sum owners weight)
 
 -- each owner gets what falls to it and those before it, less what falls to those before it
+abbrev pub running_share : ℕ → (ℕ → ℕ) → ℕ → ℤ → ℤ
+running_share owners weight k a = upto owners weight a (suc k) -ℤ upto owners weight a k
+
 abbrev pub running : ℕ → (ℕ → ℕ) → Rule
-running owners weight = by_weight owners weight (λ k a. upto owners weight a (suc k) -ℤ upto owners weight a k)
+running owners weight = by_weight owners weight (running_share owners weight)
 
 abbrev pub equal : ℕ → Rule
 equal owners = running owners (λ _. 1)
@@ -47,5 +50,8 @@ abbrev pub ahead : ℕ → (ℕ → ℕ) → ℤ → ℕ → ℕ
 ahead owners weight a k = tally owners (λ j. sooner (remainder owners weight a) j k)
 
 -- each part is rounded down, and the odd cents go to those who come first, one each
+abbrev pub nearest_share : ℕ → (ℕ → ℕ) → ℕ → ℤ → ℤ
+nearest_share owners weight k a = down owners weight a k +ℤ cond (nat_lt (ahead owners weight a k) (odd_cents owners weight a)) (pos 1) (pos 0)
+
 abbrev pub nearest : ℕ → (ℕ → ℕ) → Rule
-nearest owners weight = by_weight owners weight (λ k a. down owners weight a k +ℤ cond (nat_lt (ahead owners weight a k) (odd_cents owners weight a)) (pos 1) (pos 0))
+nearest owners weight = by_weight owners weight (nearest_share owners weight)

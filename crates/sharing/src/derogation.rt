@@ -3,7 +3,7 @@ ghost use Rattle.sharing.specs.Views.{derogated_by};
 ghost use Rattle.std.specs.Prelude.{◌≡◌};
 ghost use Rattle.sharing.specs.DerogatedLaws.{derogated_lawful};
 
-use crate::amount::{part, within_limit};
+use crate::amount::{Fraction, Shareable};
 use crate::rule::SharingRule;
 use std::num::NonZeroU32;
 
@@ -35,12 +35,14 @@ impl<R: SharingRule> SharingRule for Derogation<R> {
     }
 
     fn give(&self, amount: i64, row: &mut [i64]) {
-        if row.len() == 0 {
-            return;
+        if let Some((first, others)) = row.split_first_mut() {
+            let part = Fraction {
+                parts: self.part.min(WHOLE),
+                whole: NonZeroU32::new(WHOLE).unwrap(),
+            };
+            let share = Shareable::of(amount).part(part).cents;
+            *first = share;
+            self.below.give(amount - share, others);
         }
-        let whole = NonZeroU32::new(WHOLE).unwrap();
-        let first = part(within_limit(amount), self.part.min(WHOLE), whole);
-        row[0] = first;
-        self.below.give(amount - first, &mut row[1..]);
     }
 }

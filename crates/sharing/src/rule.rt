@@ -5,7 +5,7 @@ ghost use Rattle.sharing.specs.Rules.{Lawful, Rule, given};
 pub trait SharingRule {
     ghost meaning: { Self → Rule };
 
-    // The number of owners, or 65 where there are more than 64.
+    // The number of owners, or 65 where there are more than 64: the refusal table has 65 as the place of a payout to too many.
     fn owners(&self) -> u32
         ensures { result ≡ min (meaning self.now).owners 65 };
 

@@ -1,59 +1,35 @@
-ghost use Rattle.sharing.specs.Fillings.{running_of, unfit_weights, weight_at};
-ghost use Rattle.sharing.specs.Views.{running_by};
-ghost use Rattle.units.specs.Refusals.{answer, filling, unless};
-ghost use Rattle.std.specs.Prelude.{◌≡◌, [], ◌∷◌};
-ghost use Rattle.std.proofs.Common.{arith};
 ghost use Rattle.sharing.specs.RunningLaws.{running_lawful};
+ghost use Rattle.sharing.specs.Weighted.{running_share};
 
-use crate::amount::{part, within_limit};
-use crate::rule::SharingRule;
+use crate::amount::{Fraction, Shareable};
+use crate::method::Method;
+use crate::weighted::Weighted;
 use crate::weights::Weights;
-use units::refusal::Refusal;
 
 // Running charges: each owner gets what falls to it and those before it, rounded down, less what those before it have.
 #[derive(Clone, Copy)]
-pub struct Running {
-    weights: Weights,
-}
+pub struct RunningCharges;
 
-impl Running {
-    // One owner of weight 1.
-    pub fn new() -> Running
-        ensures { running_by result ≡ running_of (1 ∷ []) }
-    {
-        Running {
-            weights: Weights::one(),
-        }
-    }
+pub type Running = Weighted<RunningCharges>;
 
-    // Takes other weights; refuses unfit ones, and changes nothing then.
-    pub fn fill(&mut self, weights: &[u32]) -> Result<(), Refusal>
-        ensures answer { answer result ≡ filling (unfit_weights weights.now) }
-        ensures after { running_by self.new ≡ unless (unfit_weights weights.now) (running_of weights.now) (running_by self.old) }
-    {
-        self.weights = Weights::of(weights)?;
-        Ok(())
-    }
-}
+impl Method for RunningCharges {
+    ghost share = { running_share };
 
-impl SharingRule for Running {
-    ghost meaning = { running_by };
+    ghost lawful = { running_lawful };
 
-    ghost lawful = { λ s. running_lawful s.weights.count (weight_at s.weights.parts) s.weights.some (omega (arith, s.weights.sound, s.weights.total.ok)) };
-
-    fn owners(&self) -> u32 {
-        self.weights.count as u32
-    }
-
-    fn give(&self, amount: i64, row: &mut [i64]) {
-        let shared = within_limit(amount);
+    fn give(weights: &Weights, amount: Shareable, row: &mut [i64]) {
+        let count = row.len().min(weights.owners());
         let mut weight = 0;
         let mut paid = 0;
-        for k in 0..row.len().min(self.weights.count) {
-            weight += self.weights.parts[k];
-            let upto = part(shared, weight, self.weights.total);
-            row[k] = upto - paid;
-            paid = upto;
+        for (k, share) in row[..count].iter_mut().enumerate() {
+            let own = weights.fraction(k);
+            weight += own.parts;
+            let upto = amount.part(Fraction {
+                parts: weight,
+                whole: own.whole,
+            });
+            *share = upto.cents - paid;
+            paid = upto.cents;
         }
     }
 }

@@ -1,54 +1,29 @@
 -- How large the figures of an interval can be, where the register's references hold.
-use Rattle.std.proofs.Common.{ℕ, ◌-◌, ◌*◌, ◌≤◌, Bool, true, false, cond, eqb, List, get_or, take, ℤ, pos, ◌*ℤ◌, nat_abs, ⊎_elim, mul-le-mul, arith}
+use Rattle.std.proofs.Common.{ℕ, ◌-◌, ◌*◌, ◌≤◌, Bool, true, false, cond, eqb, ℤ, pos, ◌*ℤ◌, nat_abs, mul-le-mul, arith}
 use lib.Signed.{lt_z}
 use borrow.Author.Differences.{ints}
-use Rattle.std.proofs.lemmas.List.{get_or-take, get_or_past, length-take}
-use Rattle.std.proofs.lemmas.Bool.{cases_lt}
 use Rattle.units.proofs.Ring.{nat_abs-*ℤ}
 use Rattle.units.proofs.Totals.{when_size}
 use Rattle.register.specs.Contents.{Network}
 use Rattle.grid.specs.References.{Holds, link_at}
-use Rattle.grid.specs.declared.checked.Checked.{Checked}
 use Rattle.grid.proofs.Places.{link_part}
 use Rattle.losses.specs.Books.{Losses, Bounded}
-use Rattle.interval.specs.Figures.{Figures, price, flow, sent_at, taken_at}
-use Rattle.interval.specs.Views.{of_interval}
-use Rattle.interval.specs.declared.interval.Interval.{Interval}
+use Rattle.interval.specs.Figures.{Figures, price, flow}
+use Rattle.interval.specs.Metered.{figures_of}
+use Rattle.interval.specs.declared.metered.Metered.{Metered}
+use Rattle.interval.proofs.Small.{prices_small, flows_small}
 use Rattle.transfers.specs.Links.{exporting_part, entry, exit, importer, exporter, link_residue, link_export}
 
 pub record Ranged (fig : Figures) (loss : Losses) : Type 0 where
   pub prices : (r : ℕ) → nat_abs (price fig r) ≤ 2000000
   pub flows : (l : ℕ) → nat_abs (flow fig l) ≤ 200000
-  pub sent : (p : ℕ) → sent_at fig p ≤ 200000
-  pub taken : (p : ℕ) → taken_at fig p ≤ 200000
   pub lost : (l : ℕ) → loss l (flow fig l) ≤ 200000
 
--- the first n elements keep what every element keeps, and the default too
-first_keep : {A : Type 0} (P : A → Type 0) (n : ℕ) (xs : List A) (d : A) → P d → ((k : ℕ) → P (get_or xs k d)) → (k : ℕ) → P (get_or (take n xs) k d)
-first_keep P n xs d none every k = ⊎_elim
-    (λ l. rw (get_or-take n xs k d l) (every k))
-    (λ l. rw (get_or_past (take n xs) k d (omega (arith, length-take n xs))) none)
-    (cases_lt k n)
-
-pub flows_small : (g : Checked) (m : Interval) (l : ℕ) → nat_abs (flow (of_interval g.grid m) l) ≤ 200000
-flows_small g m = first_keep (λ z. nat_abs z ≤ 200000) g.grid.link_count m.flows (pos 0) (omega arith) (λ l. omega (arith, ints, (m.flow_range l).0, (m.flow_range l).1))
-
-pub prices_small : (g : Checked) (m : Interval) (r : ℕ) → nat_abs (price (of_interval g.grid m) r) ≤ 2000000
-prices_small g m = first_keep (λ z. nat_abs z ≤ 2000000) g.grid.region_count m.prices (pos 0) (omega arith) (λ r. omega (arith, ints, (m.price_range r).0, (m.price_range r).1))
-
-pub sent_small : (g : Checked) (m : Interval) (p : ℕ) → sent_at (of_interval g.grid m) p ≤ 200000
-sent_small g m = first_keep (λ e. e ≤ 200000) g.grid.point_count m.sent 0 (omega arith) m.sent_range
-
-pub taken_small : (g : Checked) (m : Interval) (p : ℕ) → taken_at (of_interval g.grid m) p ≤ 200000
-taken_small g m = first_keep (λ e. e ≤ 200000) g.grid.point_count m.taken 0 (omega arith) m.taken_range
-
-pub ranged : (g : Checked) (m : Interval) (loss : Losses) → Bounded loss → Ranged (of_interval g.grid m) loss
-ranged g m loss b = record {
-  prices = prices_small g m;
-  flows = flows_small g m;
-  sent = sent_small g m;
-  taken = taken_small g m;
-  lost = λ l. omega (arith, b.at_most l (flow (of_interval g.grid m) l), flows_small g m l);
+pub ranged : (m : Metered) (loss : Losses) → Bounded loss → Ranged (figures_of m) loss
+ranged m loss b = record {
+  prices = prices_small m;
+  flows = flows_small m;
+  lost = λ l. omega (arith, b.at_most l (flow (figures_of m) l), flows_small m l);
 }
 
 -- ---- links

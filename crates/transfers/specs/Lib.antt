@@ -1,5 +1,6 @@
 pub mod Ends
 pub mod Links
-pub mod Held
+pub mod Signs
+pub mod Views
 pub mod Carries
 pub mod Sums

@@ -1,19 +1,21 @@
 -- What enters and leaves each link in an interval, and the residue between regions.
-use Rattle.std.specs.Prelude.{ℕ, Bool, cond, length, ℤ, pos, ◌-ℤ◌, ◌*ℤ◌, ◌==◌, int_le, int_lt, unsigned_abs}
+use Rattle.std.specs.Prelude.{ℕ, Bool, cond, length, ℤ, pos, ◌-ℤ◌, ◌*ℤ◌, ◌==◌, int_lt, unsigned_abs}
+use Rattle.transfers.specs.Signs.{sign, number as sign_number}
 use Rattle.transfers.specs.Ends.{exporting, entering, leaving}
 use Rattle.units.specs.Sums.{total, when}
 use Rattle.register.specs.Contents.{Network}
 use Rattle.grid.specs.References.{corridor_at, link_at}
-use Rattle.losses.specs.Books.{Losses}
+use Rattle.losses.specs.Books.{Losses, direction as direction_of}
+use Rattle.losses.specs.Directions.{number as direction_number}
 use Rattle.interval.specs.Figures.{Figures, price, flow}
 
 -- 0 from region 1, 1 from region 2
 abbrev pub way : ℤ → ℕ
-way flows = cond (int_le (pos 0) flows) 0 1
+way flows = direction_number (direction_of flows)
 
 -- 1 where a residue is to be recovered
 abbrev pub owed : ℤ → ℕ
-owed residue = cond (int_lt residue (pos 0)) 1 0
+owed residue = sign_number (sign residue)
 
 -- the metered flows of a corridor's links together
 abbrev pub corridor_flow : Network → Figures → ℕ → ℤ

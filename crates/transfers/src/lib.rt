@@ -1,6 +1,7 @@
 #![tactic(auto)]
 
 pub mod links;
+pub mod sign;
 mod sums;
 pub mod transfer;
-pub mod worth;
+mod worth;

@@ -1,29 +1,46 @@
-ghost use Rattle.std.specs.Prelude.{◌≡◌, ◌*◌, ◌≤◌, min, pos, ◌-ℤ◌, ◌≤ℤ◌, unsigned_abs};
+ghost use Rattle.std.specs.Prelude.{◌≡◌, ◌-◌, ◌*◌, ◌≤◌, min, pos, ◌-ℤ◌, ◌≤ℤ◌, unsigned_abs};
 ghost use Rattle.transfers.specs.Ends.{entering, leaving, exporting};
 
 // The whole of a loss, in ten-thousandths.
 const WHOLE: u32 = 10_000;
 
-// The ten-thousandths of the loss that the exporting region bears.
-fn exporting_part(flow: i32, part1: u32) -> u32
-    ensures value { result ≡ exporting flow (min part1 10000) }
-    ensures small { result ≤ 10000 }
-{
-    let by_region1 = part1.min(WHOLE);
-    if flow > 0 {
-        by_region1
-    } else {
-        WHOLE - by_region1
-    }
+// A part of a loss, in ten-thousandths.
+#[derive(Clone, Copy)]
+struct Part {
+    parts: u32,
+    ghost at_most_all: { parts ≤ 10000 },
 }
 
-// A part of an energy in kWh, in node units.
-fn share(part: u32, energy: u32) -> i64
-    requires { part ≤ 10000 }
-    ensures value { result ≡ pos (part * energy) }
-    ensures small { part * energy ≤ 10000 * energy }
-{
-    (u64::from(part) * u64::from(energy)) as i64
+impl Part {
+    // What the exporting region bears, where region 1 bears `part1`; more than all counts as all.
+    fn exporting(flow: i32, part1: u32) -> Part
+        ensures { result.parts ≡ exporting flow (min part1 10000) }
+    {
+        let by_region1 = Part {
+            parts: part1.min(WHOLE),
+        };
+        if flow > 0 {
+            by_region1
+        } else {
+            by_region1.rest()
+        }
+    }
+
+    fn rest(self) -> Part
+        ensures { result.parts ≡ 10000 - self.parts }
+    {
+        Part {
+            parts: WHOLE - self.parts,
+        }
+    }
+
+    // That part of an energy in kWh, in node units.
+    fn of(self, energy: u32) -> i64
+        ensures value { result ≡ pos (self.parts * energy) }
+        ensures small { self.parts * energy ≤ 10000 * energy }
+    {
+        i64::from(self.parts) * i64::from(energy)
+    }
 }
 
 // What enters a link at the exporting region and leaves it at the importing one, where `loss` is lost between them.
@@ -32,12 +49,9 @@ pub(crate) fn ends(flow: i32, part1: u32, loss: u32) -> (i64, i64)
     ensures exit { result.1 ≡ leaving (exporting flow (min part1 10000)) (unsigned_abs flow) loss }
     ensures part { exporting flow (min part1 10000) ≤ 10000 }
 {
-    let part = exporting_part(flow, part1);
-    let carried = share(WHOLE, flow.unsigned_abs());
-    (
-        carried + share(part, loss),
-        carried - share(WHOLE - part, loss),
-    )
+    let part = Part::exporting(flow, part1);
+    let carried = Part { parts: WHOLE }.of(flow.unsigned_abs());
+    (carried + part.of(loss), carried - part.rest().of(loss))
 }
 
 // What enters a link at the exporting region and leaves it at the importing one, in node units: entry and exit.

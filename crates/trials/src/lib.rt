@@ -12,3 +12,5 @@ mod of_register;
 mod of_sharing;
 #[cfg(test)]
 mod of_units;
+#[cfg(test)]
+mod told;

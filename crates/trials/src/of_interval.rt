@@ -1,7 +1,9 @@
+use crate::told::told;
 use grid::grid::Grid;
 use interval::read::read;
-use register::entry::{Corridor, Dna, Link, Point};
+use register::entry::{Corridor, Link, Point};
 use std::test::Fail;
+use units::fixed_list::FixedList;
 use units::refusal::Refusal;
 
 const WORDS: [u32; 9] = [
@@ -32,21 +34,12 @@ fn two_regions() -> Grid {
         marginal: 10_000,
         distribution: 10_000,
     };
-    let dna = Dna {
-        region: 0,
-        downstream: 0,
-        boundary: 10_000,
-    };
     Grid {
         region_count: 2,
-        corridor_count: 1,
-        corridors: [corridor; 8],
-        link_count: 1,
-        links: [link; 8],
-        point_count: 4,
-        points: [point; 128],
-        dna_count: 0,
-        dnas: [dna; 8],
+        corridors: FixedList::first_of([corridor; 8], 1),
+        links: FixedList::first_of([link; 8], 1),
+        points: FixedList::first_of([point; 128], 4),
+        dnas: FixedList::new(),
     }
 }
 
@@ -54,22 +47,18 @@ fn two_regions() -> Grid {
 fn figures(words: &[u32]) -> Result<(usize, [i32; 3], [u32; 4], [u32; 4]), Refusal> {
     let (interval, used) = read(&two_regions(), words)?;
     let prices = interval.prices;
-    let sent = interval.sent;
-    let taken = interval.taken;
+    let [a, b, c, d, ..] = interval.readings;
     Ok((
         used,
         [prices[0], prices[1], interval.flows[0]],
-        [sent[0], sent[1], sent[2], sent[3]],
-        [taken[0], taken[1], taken[2], taken[3]],
+        [a.sent, b.sent, c.sent, d.sent],
+        [a.taken, b.taken, c.taken, d.taken],
     ))
 }
 
-// The refusal's number and place; zeros where the words are read.
-fn refusal(words: &[u32]) -> (u32, usize) {
-    match read(&two_regions(), words) {
-        Ok(_) => (0, 0),
-        Err(e) => (e.number(), e.place()),
-    }
+// How many words are used, or the refusal's number and place.
+fn used(words: &[u32]) -> Result<usize, (u32, usize)> {
+    told(read(&two_regions(), words)).map(|(_, used)| used)
 }
 
 #[test]
@@ -86,15 +75,15 @@ fn example_is_read(rt: HostRuntime) -> Result<(), Fail> {
 fn count_is_checked(rt: HostRuntime) {
     let mut words = WORDS;
     words[8] = 0x6000_0009;
-    assert_eq!(rt; refusal(&words), (5, 8));
-    assert_eq!(rt; refusal(&words[0..8]), (1, 8));
+    assert_eq!(rt; used(&words), Err((5, 8)));
+    assert_eq!(rt; used(&words[0..8]), Err((1, 8)));
 }
 
 #[test]
 fn flow_is_checked(rt: HostRuntime) {
     let mut words = WORDS;
     words[3] = 0x3003_0d40;
-    assert_eq!(rt; refusal(&words), (0, 0));
+    assert_eq!(rt; used(&words), Ok(9));
     words[3] = 0x3003_0d41;
-    assert_eq!(rt; refusal(&words), (3, 3));
+    assert_eq!(rt; used(&words), Err((3, 3)));
 }

@@ -5,3 +5,4 @@ pub mod Tabulate
 pub mod Firsts
 pub mod Rows
 pub mod Fits
+pub mod FixedLists

@@ -1,6 +1,5 @@
--- Rows that are written place by place, and what a write to a part of a row leaves.
+-- Rows that are written place by place.
 use Rattle.std.proofs.Common.{◌≡◌, ℕ, zero, suc, ◌+◌, ◌-◌, ◌<◌, ◌≤◌, min, List, [], ◌∷◌, ◌++◌, length, get_or, take, drop, set, sym, refl, ap, ◌∙◌, ⊎_elim, append-nil, arith, length-append, length-drop}
-use borrow.Rule.Slice.PartMut.{put_mid}
 use Rattle.std.proofs.lemmas.List.{append_assoc, get_or_append_left, get_or-append_right, get_or-drop, drop_more, drop_all, set_at, take_at, drop_at, length-take-le, drop-drop}
 use Rattle.std.proofs.lemmas.Bool.{cases_lt}
 use Rattle.units.specs.Sums.{tabulate}
@@ -26,11 +25,8 @@ module _ {A : Type 0} where
         ∙ get_or-drop n row (k - n) d
         ∙ ap (λ j. get_or row j d) (omega arith)
 
-  -- a loop that writes f k at each place k: its start, its step, and its end
+  -- a loop that writes f k at each place k: its step, and its end
   module _ (f : ℕ → A) (row : List A) where
-    pub over_none : over 0 f row ≡ row
-    over_none = let none : min 0 (length row) ≡ 0 = omega arith in ap (λ m. tabulate m f ++ row) none
-
     pub over_more : (i : ℕ) (x : A) → i < length row → x ≡ f i → set (over i f row) i x ≡ over (i + 1) f row
     over_more i x l e =
         let now : min i (length row) ≡ i = omega arith in
@@ -56,6 +52,18 @@ module _ {A : Type 0} where
     over_all n e =
         let all : min n (length row) ≡ n = omega arith in
         (λ t. tabulate (all t) f ++ drop_all n row (omega arith) t) ∙ append-nil (tabulate n f)
+
+  -- the step of a loop that has come to the places `now`
+  pub over_write : (f : ℕ → A) (row now : List A) (i : ℕ) (x : A) → now ≡ over i f row → i < length row → x ≡ f i → set now i x ≡ over (i + 1) f row
+  over_write f row now i x so_far l e = ap (λ xs. set xs i x) so_far ∙ over_more f row i x l e
+
+  -- the end of such a loop over row[..c], which has now come to be the places `now`
+  pub over_front : (f : ℕ → A) (row now : List A) (n c k : ℕ) → now ≡ over k f (take c row) → k ≡ c → c ≡ min (length row) n → now ++ drop c row ≡ over n f row
+  over_front f row now n c k so_far e all =
+      let whole : min c (length row) ≡ c = omega arith in
+      ap (λ xs. xs ++ drop c row) (so_far ∙ ap (λ j. over j f (take c row)) e ∙ over_all f (take c row) c (length-take-le c row (omega arith)))
+      ∙ ap (λ m. tabulate m f ++ drop c row) (sym whole)
+      ∙ over_stop f row n c all
 
   pub over_ext : (n : ℕ) (f g : ℕ → A) (row : List A) → ((k : ℕ) → k < n → f k ≡ g k) → over n f row ≡ over n g row
   over_ext n f g row h = ap (λ xs. xs ++ drop n row) (tabulate_ext (min n (length row)) f g (λ k l. h k (omega arith)))
@@ -101,10 +109,3 @@ module _ {A : Type 0} where
         sym (get_or-drop at (over_from at n f row) j d)
         ∙ ap (λ xs. get_or xs j d) from_part
         ∙ over_below n f (drop at row) j d l (omega (arith, room))
-
-  -- ---- a write to row[at..]
-
-  pub part_back : (row part : List A) (at : ℕ) → put_mid at (length row - at) row part ≡ take at row ++ part
-  part_back row part at =
-      ap (λ zs. take at row ++ (part ++ zs)) (drop_all (length row - at) (drop at row) (omega (arith, length-drop at row)))
-      ∙ ap (λ zs. take at row ++ zs) (append-nil part)

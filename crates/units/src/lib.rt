@@ -1,6 +1,7 @@
 #![tactic(auto)]
 
 pub mod amount;
+pub mod fixed_list;
 pub mod floor;
 pub mod laws;
 pub mod refusal;

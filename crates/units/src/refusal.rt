@@ -5,7 +5,7 @@ ghost use Rattle.units.specs.Refusals.{told, name, line};
 use std::fmt;
 
 // The part of the box that refuses.
-#[derive(Clone, Copy)]
+#[derive(Clone, Copy, PartialEq, Eq)]
 pub enum Layer {
     Words,
     Month,
@@ -15,7 +15,7 @@ pub enum Layer {
     Payout,
 }
 
-#[derive(Clone, Copy)]
+#[derive(Clone, Copy, PartialEq, Eq)]
 pub enum Refusal {
     WordMissing(usize),
     KindNotAllowed(usize),

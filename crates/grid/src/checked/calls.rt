@@ -17,9 +17,7 @@ impl Checked {
         ensures same { contents register.new ≡ contents register.old }
     {
         let grid = Grid::copied(register);
-        match grid.first_broken() {
-            Some(place) => Err(Refusal::BrokenReference(place)),
-            None => Ok(Checked { grid }),
-        }
+        grid.references()?;
+        Ok(Checked { grid })
     }
 }

@@ -1,198 +1,160 @@
-ghost use Rattle.std.specs.Prelude.{◌≡◌, ◌+◌, ◌<◌, ◌≤◌, IfSome, ◌==◌, nat_le};
+ghost use Rattle.std.specs.Prelude.{◌≡◌, ℕ, ◌+◌, ◌*◌, ◌<◌, ◌≤◌, Bool, length, IfSome};
+ghost use Rattle.std.specs.Option.{option_map};
+ghost use Rattle.std.specs.List.{list_all, range_with_len};
+ghost use Rattle.std.proofs.Common.{rules};
 ghost use Rattle.units.specs.Refusals.{answer};
-ghost use Rattle.units.specs.Sums.{first_failure, tally};
-ghost use Rattle.grid.specs.References.{paired, joined, placed, based, same_pair, fresh_pair, corridor_holds, link_holds, names_asset, point_holds, fed_by, dna_holds, broken, unless_broken};
-ghost use Rattle.grid.specs.Kinds.{entered, holds, names, feeds};
+ghost use Rattle.units.specs.Sums.{first_failure};
+ghost use Rattle.register.specs.Contents.{Network};
+ghost use Rattle.grid.specs.References.{other_pair, refers, corridor_holds, link_holds, names_asset, point_holds, fed_by, dna_holds, broken, unless_broken};
 ghost use Rattle.grid.specs.Views.{of_grid};
 
+use crate::entered::Entered;
 use crate::grid::Grid;
 use register::entry::{Corridor, Dna, Entry, Link, Point};
 use units::refusal::Refusal;
 
-// The rolls whose entries refer to others.
-#[derive(Clone, Copy)]
-enum Kind {
-    Corridors,
-    Links,
-    Points,
-    Dnas,
+// An entry that refers to entries of other rolls.
+trait Referring: Entered {
+    // The number of its roll.
+    const ROLL: u32;
+
+    ghost ROLL: { ℕ };
+
+    ghost holds: { Network → ℕ → Bool };
+
+    // The references of entry `i` hold.
+    fn holds(grid: &Grid, i: usize) -> bool
+        ensures { result ≡ holds (of_grid grid.now) i };
+
+    ghost few_rolls: { ROLL ≤ 4 };
 }
 
-fn is_paired(c: Corridor, regions: usize) -> bool
-    ensures { result ≡ paired regions c }
+// The entry's fields are in range, and its field `number` is that of one of the `end` entries of another roll.
+fn refers<E: Entry>(entry: E, number: u32, end: usize) -> bool
+    ensures { result ≡ refers (E.unfit entry) number end }
 {
-    c.unfit_field().is_none() && c.region1 < c.region2 && (c.region2 as usize) < regions
+    entry.unfit_field().is_none() && (number as usize) < end
 }
 
-fn is_same_pair(b: Corridor, c: Corridor) -> bool
-    ensures { result ≡ same_pair b c }
-{
-    b.region1 == c.region1 && b.region2 == c.region2
+impl Referring for Corridor {
+    const ROLL: u32 = 1;
+
+    ghost ROLL = { 1 };
+
+    ghost holds = { corridor_holds };
+
+    ghost few_rolls = { Prim.search rules };
+
+    #[tactic(auto, using(crate::proofs::Chains::all_in_range))]
+    fn holds(grid: &Grid, i: usize) -> bool {
+        let c = grid.entry_at::<Corridor>(i);
+        refers(c, c.region2, grid.region_count) && c.region1 < c.region2 && grid.has_fresh_pair(i)
+    }
 }
 
-fn is_joined(l: Link, corridors: usize) -> bool
-    ensures { result ≡ joined corridors l }
-{
-    l.unfit_field().is_none() && (l.corridor as usize) < corridors
+impl Referring for Link {
+    const ROLL: u32 = 2;
+
+    ghost ROLL = { 2 };
+
+    ghost holds = { link_holds };
+
+    ghost few_rolls = { Prim.search rules };
+
+    fn holds(grid: &Grid, i: usize) -> bool {
+        let l = grid.entry_at::<Link>(i);
+        refers(l, l.corridor, grid.corridors.len())
+    }
 }
 
-fn is_placed(p: Point, regions: usize) -> bool
-    ensures { result ≡ placed regions p }
-{
-    p.unfit_field().is_none() && (p.region as usize) < regions
+impl Referring for Point {
+    const ROLL: u32 = 3;
+
+    ghost ROLL = { 3 };
+
+    ghost holds = { point_holds };
+
+    ghost few_rolls = { Prim.search rules };
+
+    fn holds(grid: &Grid, i: usize) -> bool {
+        let p = grid.entry_at::<Point>(i);
+        refers(p, p.region, grid.region_count)
+            && grid.names_asset(grid.dnas.len(), p.region, p.asset())
+    }
 }
 
-fn is_based(d: Dna, regions: usize) -> bool
-    ensures { result ≡ based regions d }
-{
-    d.unfit_field().is_none() && (d.region as usize) < regions
-}
+impl Referring for Dna {
+    const ROLL: u32 = 4;
 
-// `reference`, an asset's number plus 1 or 0 for none, names `asset`.
-fn is_number(reference: u32, asset: usize) -> bool
-    ensures { result ≡ (reference == asset + 1) }
-{
-    reference != 0 && reference as usize - 1 == asset
+    ghost ROLL = { 4 };
+
+    ghost holds = { dna_holds };
+
+    ghost few_rolls = { Prim.search rules };
+
+    fn holds(grid: &Grid, i: usize) -> bool {
+        let d = grid.entry_at::<Dna>(i);
+        refers(d, d.region, grid.region_count)
+            && grid.names_asset(i, d.region, d.below())
+            && grid.fed_by(i) <= 16
+    }
 }
 
 impl Grid {
     // No corridor before corridor `i` has its pair of regions.
     fn has_fresh_pair(&self, i: usize) -> bool
-        ensures { result ≡ fresh_pair (of_grid self.now) i }
+        ensures { result ≡ list_all (other_pair (of_grid self.now) i) (range_with_len 0 i) }
     {
-        for j in 0..i {
-            if is_same_pair(self.corridor_at(j), self.corridor_at(i)) {
-                return false;
-            }
-        }
-        true
+        let c = self.entry_at::<Corridor>(i);
+        // By number, since it is asked for any `i`, also beyond the last.
+        (0..i).all(|j| self.entry_at::<Corridor>(j) != c)
     }
 
-    // `dna` is 0, or the number plus 1 of an asset of `region` below asset `end`.
-    fn names_asset(&self, end: usize, region: u32, dna: u32) -> bool
-        ensures { result ≡ names_asset (of_grid self.now) end region dna }
+    // An asset that is named is below asset `end` and of the region.
+    fn names_asset(&self, end: usize, region: u32, asset: Option<usize>) -> bool
+        ensures { result ≡ names_asset (of_grid self.now) end region asset }
     {
-        let number = dna as usize;
-        number == 0 || number <= end && self.dna_at(number - 1).region == region
-    }
-
-    // The asset that an entry names, as its number plus 1, or 0 for none.
-    fn named(&self, kind: Kind, i: usize) -> u32
-        ensures { result ≡ names kind (of_grid self.now) i }
-    {
-        match kind {
-            Kind::Corridors | Kind::Links => 0,
-            Kind::Points => self.point_at(i).dna,
-            Kind::Dnas => self.dna_at(i).downstream,
+        match asset {
+            Some(d) => d < end && self.entry_at::<Dna>(d).region == region,
+            None => true,
         }
     }
 
-    // How many entries are in the roll.
-    fn count_of(&self, kind: Kind) -> usize
-        ensures value { result ≡ entered kind (of_grid self.now) }
-        ensures few { result ≤ 128 }
+    // How many points and assets feed asset `n`.
+    fn fed_by(&self, n: usize) -> usize
+        ensures { result ≡ fed_by (of_grid self.now) n }
     {
-        match kind {
-            Kind::Corridors => self.corridor_count,
-            Kind::Links => self.link_count,
-            Kind::Points => self.point_count,
-            Kind::Dnas => self.dna_count,
-        }
+        let points = self.points.as_slice().iter();
+        let dnas = self.dnas.as_slice().iter();
+        points.filter(|p| p.asset() == Some(n)).count()
+            + dnas.filter(|d| d.below() == Some(n)).count()
     }
 
-    // How many entries of the roll name asset `asset`.
-    fn count_feeding(&self, kind: Kind, asset: usize) -> usize
-        ensures value { result ≡ tally (entered kind (of_grid self.now)) (feeds kind (of_grid self.now) asset) }
-        ensures few { result ≤ 128 }
-    {
-        let mut count = 0;
-        for i in 0..self.count_of(kind) {
-            if is_number(self.named(kind, i), asset) {
-                count += 1;
-            }
-        }
-        count
-    }
-
-    // At most 16 points and assets feed asset `i`.
-    fn few_feed(&self, i: usize) -> bool
-        ensures { result ≡ nat_le (fed_by (of_grid self.now) i) 16 }
-    {
-        self.count_feeding(Kind::Points, i) + self.count_feeding(Kind::Dnas, i) <= 16
-    }
-
-    fn corridor_holds(&self, i: usize) -> bool
-        ensures { result ≡ corridor_holds (of_grid self.now) i }
-    {
-        is_paired(self.corridor_at(i), self.region_count) && self.has_fresh_pair(i)
-    }
-
-    fn link_holds(&self, i: usize) -> bool
-        ensures { result ≡ link_holds (of_grid self.now) i }
-    {
-        is_joined(self.link_at(i), self.count_of(Kind::Corridors))
-    }
-
-    fn point_holds(&self, i: usize) -> bool
-        ensures { result ≡ point_holds (of_grid self.now) i }
-    {
-        let p = self.point_at(i);
-        is_placed(p, self.region_count)
-            && self.names_asset(self.count_of(Kind::Dnas), p.region, p.dna)
-    }
-
-    fn dna_holds(&self, i: usize) -> bool
-        ensures { result ≡ dna_holds (of_grid self.now) i }
-    {
-        let d = self.dna_at(i);
-        is_based(d, self.region_count)
-            && self.names_asset(i, d.region, d.downstream)
-            && self.few_feed(i)
-    }
-
-    // The references of entry `i` of the roll hold.
-    fn entry_holds(&self, kind: Kind, i: usize) -> bool
-        ensures { result ≡ holds kind (of_grid self.now) i }
-    {
-        match kind {
-            Kind::Corridors => self.corridor_holds(i),
-            Kind::Links => self.link_holds(i),
-            Kind::Points => self.point_holds(i),
-            Kind::Dnas => self.dna_holds(i),
-        }
-    }
-
-    // The first entry of a roll whose reference fails.
-    fn first_failure(&self, kind: Kind) -> Option<u32>
-        ensures value { result ≡ first_failure (entered kind (of_grid self.now)) (holds kind (of_grid self.now)) }
+    // The first entry of a kind whose reference fails.
+    fn first_failure<E: Referring>(&self) -> Option<usize>
+        ensures value { result ≡ first_failure (length (E.roll (of_grid self.now))) (E.holds (of_grid self.now)) }
         ensures few { IfSome result (λ k. k < 128) }
     {
-        let end = self.count_of(kind);
-        for i in 0..end {
-            if !self.entry_holds(kind, i) {
-                return Some(i as u32);
-            }
-        }
-        None
+        // By number, which `holds` is asked with.
+        (0..E::entered(self).len()).find(|i| !E::holds(self, *i))
     }
 
-    // The first entry whose reference fails, as 256 × roll + entry.
+    // The same, as 256 × roll + entry.
+    fn first_place<E: Referring>(&self) -> Option<u32>
+        ensures { result ≡ option_map (λ k. 256 * E.ROLL + k) (first_failure (length (E.roll (of_grid self.now))) (E.holds (of_grid self.now))) }
+    {
+        let i = self.first_failure::<E>()?;
+        Some(256 * E::ROLL + i as u32)
+    }
+
+    // The first entry of all whose reference fails, as 256 × roll + entry.
     pub(crate) fn first_broken(&self) -> Option<u32>
         ensures { result ≡ broken (of_grid self.now) }
     {
-        if let Some(i) = self.first_failure(Kind::Corridors) {
-            return Some(256 + i);
-        }
-        if let Some(i) = self.first_failure(Kind::Links) {
-            return Some(512 + i);
-        }
-        if let Some(i) = self.first_failure(Kind::Points) {
-            return Some(768 + i);
-        }
-        if let Some(i) = self.first_failure(Kind::Dnas) {
-            return Some(1024 + i);
-        }
-        None
+        self.first_place::<Corridor>()
+            .or_else(|| self.first_place::<Link>())
+            .or_else(|| self.first_place::<Point>())
+            .or_else(|| self.first_place::<Dna>())
     }
 
     // All references hold, or the refusal of the first entry whose reference fails.

@@ -5,79 +5,59 @@ ghost use Rattle.losses.specs.Views.{segments};
 ghost use Rattle.units.specs.Refusals.{answer, filling, unless};
 
 use crate::book::LARGEST_FLOW;
-use crate::curve::{Curve, WHOLE};
+use crate::curve::{Curve, Segment, WHOLE};
+use units::fixed_list::FixedList;
 use units::refusal::Refusal;
-
-const MOST: usize = 8;
 
 impl Curve {
     pub(crate) fn new() -> Curve
         ensures { segments result ≡ [] }
     {
         Curve {
-            uppers: [0; 8],
-            slopes: [0; 8],
-            count: 0,
+            segments: FixedList::new(),
         }
     }
 
-    // Adds a segment above the others; refuses an unfit one, and changes nothing then.
+    // Adds a segment above the others; refuses an unfit one by its first unfit parameter, counted from the link on, and changes nothing then.
+    #[tactic(auto, using(crate::specs::Rising::rising_fit))]
     pub(crate) fn add(&mut self, upper: u32, slope: u32) -> Result<(), Refusal>
         ensures answer { answer result ≡ filling (unfit_segment (segments self.old) upper slope) }
         ensures after { segments self.new ≡ unless (unfit_segment (segments self.old) upper slope) (segments self.old ++ (segment upper slope ∷ [])) (segments self.old) }
     {
-        if let Some(place) = self.unfit(upper, slope) {
-            return Err(Refusal::Unfit(place));
-        }
-        self.uppers[self.count] = upper;
-        self.slopes[self.count] = slope;
-        self.count += 1;
-        Ok(())
-    }
-
-    // The first unfit parameter of a segment, counted from the link on, or 4 where there is no room.
-    fn unfit(&self, upper: u32, slope: u32) -> Option<usize>
-        ensures { result ≡ unfit_segment (segments self.now) upper slope }
-    {
         if upper <= self.last_end() || upper > LARGEST_FLOW {
-            Some(2)
-        } else if slope > WHOLE {
-            Some(3)
-        } else if self.count >= MOST {
-            Some(4)
-        } else {
-            None
+            return Err(Refusal::Unfit(2));
         }
+        if slope > WHOLE {
+            return Err(Refusal::Unfit(3));
+        }
+        self.segments
+            .push(Segment { upper, slope })
+            .map_err(|_| Refusal::Unfit(4))
     }
 
     // The last upper end, or 0.
+    #[tactic(auto, using(crate::specs::Rising::last_end_at))]
     fn last_end(&self) -> u32
         ensures { result ≡ last_end 0 (segments self.now) }
     {
-        if self.count == 0 {
-            0
-        } else {
-            self.uppers[self.count - 1]
-        }
+        self.segments.as_slice().last().map_or(0, |last| last.upper)
     }
 
     // Slope times length, over the segments up to a flow of the size, in ten-thousandths of a kWh.
+    #[tactic(auto, using(crate::specs::Rising::along_step, crate::specs::Rising::along_last, crate::specs::Rising::along_le))]
     pub(crate) fn along(&self, size: u32) -> u32
         requires { size ≤ 200000 }
         ensures { result ≡ page.along 0 (segments self.now) size }
     {
+        let Some((last, inner)) = self.segments.as_slice().split_last() else {
+            return 0;
+        };
         let mut low = 0;
         let mut sum = 0;
-        for k in 0..self.count {
-            let upper = self.uppers[k];
-            let end = if k + 1 < self.count {
-                size.min(upper)
-            } else {
-                size
-            };
-            sum += self.slopes[k] * end.saturating_sub(low);
-            low = upper;
+        for segment in inner {
+            sum += segment.slope * size.min(segment.upper).saturating_sub(low);
+            low = segment.upper;
         }
-        sum
+        sum + last.slope * size.saturating_sub(low)
     }
 }

@@ -1,27 +1,25 @@
-ghost use Rattle.std.specs.Prelude.{◌≡◌, ◌≤◌, min, length};
+ghost use Rattle.std.specs.Prelude.{◌≡◌, min, length};
 ghost use Rattle.std.specs.List.{slice_get};
 ghost use Rattle.units.specs.Refusals.{answer};
-ghost use Rattle.register.specs.Rolls.{Within, held, empty, size, enter_answer, after_enter, copied};
+ghost use Rattle.register.specs.Rolls.{held, empty, size, enter_answer, after_enter, copied};
 
 use crate::entry::Entry;
 use crate::roll::Roll;
 use units::refusal::Refusal;
 
+// Questions too take the roll for writing and promise that nothing changed: a rule of the project.
 impl<'a, E: Entry> Roll<'a, E> {
     // An empty roll, whatever the memory holds.
     pub fn new(slots: &'a mut [E]) -> Self
-        ensures empty { held result ≡ empty (length slots.old) }
-        ensures within { Within E.Entry.greatest result }
+        ensures { held result ≡ empty (length slots.old) }
     {
         Roll { slots, count: 0 }
     }
 
-    // A count beyond the memory, which no call makes, counts as all of it.
-    fn entered(&self) -> usize
-        ensures value { result ≡ size (held self.now) }
-        ensures inside { result ≤ length self.now.slots.now }
+    fn entries(&self) -> &[E]
+        ensures { result.now ≡ (held self.now).entries }
     {
-        self.count.min(self.slots.len())
+        &self.slots[..self.count]
     }
 
     // The number of entries.
@@ -29,7 +27,7 @@ impl<'a, E: Entry> Roll<'a, E> {
         ensures value { result ≡ size (held self.old) }
         ensures same { self.new ≡ self.old }
     {
-        self.entered()
+        self.entries().len()
     }
 
     // The entry of number `i`, or none where `i` is beyond the last.
@@ -37,24 +35,19 @@ impl<'a, E: Entry> Roll<'a, E> {
         ensures value { result ≡ slice_get (held self.old).entries i }
         ensures same { self.new ≡ self.old }
     {
-        if i < self.entered() {
-            Some(self.slots[i])
-        } else {
-            None
-        }
+        self.entries().get(i).copied()
     }
 
     // Appends `e` and answers its number. Refuses a field out of range, then a full roll, and changes nothing then.
     pub fn enter(&mut self, e: E) -> Result<usize, Refusal>
-        ensures answers { answer result ≡ enter_answer (E.Entry.unfit e) E.Entry.greatest (held self.old) }
-        ensures enters { held self.new ≡ after_enter (E.Entry.unfit e) E.Entry.greatest (held self.old) e }
-        ensures within { Within E.Entry.greatest self.old → Within E.Entry.greatest self.new }
+        ensures answers { answer result ≡ enter_answer (E.unfit e) E.MOST (held self.old) }
+        ensures enters { held self.new ≡ after_enter (E.unfit e) E.MOST (held self.old) e }
     {
         if let Some(field) = e.unfit_field() {
             return Err(Refusal::FieldOutOfRange(field));
         }
-        let number = self.entered();
-        if number >= E::limit() || number >= self.slots.len() {
+        let number = self.count;
+        if number >= E::MOST || number >= self.slots.len() {
             return Err(Refusal::RollFull(number));
         }
         self.slots[number] = e;
@@ -68,10 +61,8 @@ impl<'a, E: Entry> Roll<'a, E> {
         ensures copied { out.new ≡ copied (held self.old).entries out.old }
         ensures same { self.new ≡ self.old }
     {
-        let count = self.entered().min(out.len());
-        for i in 0..count {
-            out[i] = self.slots[i];
-        }
+        let count = self.count.min(out.len());
+        out[..count].copy_from_slice(&self.entries()[..count]);
         count
     }
 }

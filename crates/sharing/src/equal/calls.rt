@@ -2,11 +2,11 @@ ghost use Rattle.sharing.specs.Fillings.{unfit_owners};
 ghost use Rattle.sharing.specs.Views.{equal_by};
 ghost use Rattle.sharing.specs.Weighted.{equal};
 ghost use Rattle.units.specs.Refusals.{answer, filling, unless};
-ghost use Rattle.std.specs.Prelude.{◌≡◌};
+ghost use Rattle.std.specs.Prelude.{◌≡◌, min};
 ghost use Rattle.std.specs.NonZero.{non_zero_u32_get};
 ghost use Rattle.sharing.specs.RunningLaws.{equal_lawful};
 
-use crate::amount::{part, within_limit};
+use crate::amount::{Fraction, Shareable};
 use crate::equal::Equal;
 use crate::rule::SharingRule;
 use std::num::NonZeroU32;
@@ -29,11 +29,23 @@ impl Equal {
         ensures answer { answer result ≡ filling (unfit_owners owners) }
         ensures after { equal_by self.new ≡ unless (unfit_owners owners) (equal owners) (equal_by self.old) }
     {
-        if owners < 1 || owners > MOST {
-            return Err(Refusal::Unfit(0));
-        }
-        self.owners = NonZeroU32::new(owners).unwrap();
+        self.owners = NonZeroU32::new(owners)
+            .filter(|owners| owners.get() <= MOST)
+            .ok_or(Refusal::Unfit(0))?;
         Ok(())
+    }
+
+    // What the first `count` owners have in all.
+    fn of_first(self, count: usize) -> Fraction
+        ensures parts { result.parts ≡ min count (non_zero_u32_get self.owners) }
+        ensures whole { result.whole ≡ self.owners }
+    {
+        Fraction {
+            parts: u32::try_from(count)
+                .unwrap_or(u32::MAX)
+                .min(self.owners.get()),
+            whole: self.owners,
+        }
     }
 }
 
@@ -47,10 +59,10 @@ impl SharingRule for Equal {
     }
 
     fn give(&self, amount: i64, row: &mut [i64]) {
-        let shared = within_limit(amount);
-        for k in 0..row.len().min(self.owners.get() as usize) {
-            let place = k as u32;
-            row[k] = part(shared, place + 1, self.owners) - part(shared, place, self.owners);
+        let shared = Shareable::of(amount);
+        let count = row.len().min(self.owners.get() as usize);
+        for (k, share) in row[..count].iter_mut().enumerate() {
+            *share = shared.part(self.of_first(k + 1)).cents - shared.part(self.of_first(k)).cents;
         }
     }
 }

@@ -37,13 +37,13 @@ impl Amount {
         let grains = self.grains + other.grains;
         let carry = grains / GRAINS_PER_CENT;
         let cents = i128::from(self.cents) + i128::from(other.cents) + i128::from(carry);
-        match i64::try_from(cents) {
-            Ok(cents) => Some(Amount {
-                cents,
-                grains: grains % GRAINS_PER_CENT,
-            }),
-            Err(_) => None,
-        }
+        let Ok(cents) = i64::try_from(cents) else {
+            return None;
+        };
+        Some(Amount {
+            cents,
+            grains: grains % GRAINS_PER_CENT,
+        })
     }
 
     // The whole cents, rounded down.

@@ -1,7 +1,6 @@
-use Rattle.grid.specs.Checks.{of_checked}
-use Rattle.transfers.specs.Held.{fig_of}
-use Rattle.assets.specs.Work.{Worked}
+use Rattle.interval.specs.Metered.{network_of, figures_of}
+use Rattle.assets.specs.Estimates.{Worked}
 use Rattle.assets.proofs.assets.Assets.of.Given as goal
 
-abbrev pub invariant-loop-asset : goal.invariant-loop-asset
-invariant-loop-asset l = Worked (of_checked l.grid) (fig_of l.grid l.metered) l.asset l.work
+abbrev pub invariant-loop-number : goal.invariant-loop-number
+invariant-loop-number l = Worked (network_of l.metered) (figures_of l.metered) l.number l.found

@@ -54,8 +54,8 @@ fits_no : (z : ℤ) → (SFits w64 z → ⊥) → fits_64 z ≡ false
 fits_no (pos n) h = not_true_false (fits_64 (pos n)) (λ e. h (record { sfits = ltb-true n (2 ^ 63) e }))
 fits_no (negsuc n) h = not_true_false (fits_64 (negsuc n)) (λ e. h (record { sfits = ltb-true n (2 ^ 63) e }))
 
-pub returns-in-Ok : goal.returns-in-Ok
-returns-in-Ok c =
+pub returns : goal.returns
+returns c =
     let f : SFits w64 c.args.self.cents = search rules in
     let g : SFits w64 c.args.other.cents = search rules in
     let e = c.in-Ok.ensures in
@@ -66,10 +66,10 @@ returns-in-Ok c =
     let whole = sym (to_z-of_z w64 c.in-Ok.cents fits) ∙ cents ∙ cents_with_carry c.args.self.cents c.args.other.cents c.args.self.grains c.args.other.grains in
     ap Some all ∙ sym (ap (λ t. cond t (Some (row c.args.self.cents c.args.self.grains +ℤ row c.args.other.cents c.args.other.grains)) None) (fits_yes _ (subst (SFits w64) whole fits)))
 
-pub returns-in-Err : goal.returns-in-Err
-returns-in-Err c =
+pub returns-in_default : goal.returns-in_default
+returns-in_default c =
     let f : SFits w64 c.args.self.cents = search rules in
     let g : SFits w64 c.args.other.cents = search rules in
     let sum = carried _ _ _ _ _ _ f g c.from.ensures c.from-2.ensures c.from-3.ensures (omega arith) in
     let whole = sum ∙ cents_with_carry c.args.self.cents c.args.other.cents c.args.self.grains c.args.other.grains in
-    sym (ap (λ t. cond t (Some (row c.args.self.cents c.args.self.grains +ℤ row c.args.other.cents c.args.other.grains)) None) (fits_no _ (λ fits. c.in-Err.ensures (subst (SFits w64) (sym whole) fits))))
+    sym (ap (λ t. cond t (Some (row c.args.self.cents c.args.self.grains +ℤ row c.args.other.cents c.args.other.grains)) None) (fits_no _ (λ fits. c.in_default.ensures (subst (SFits w64) (sym whole) fits))))

@@ -1,7 +1,8 @@
 use Rattle.std.proofs.Common.{◌≡◌}
+use Rattle.std.specs.NonZero.{non_zero_u32_get}
 use Rattle.units.specs.Rows.{over}
-use Rattle.sharing.specs.Views.{equal_by}
+use Rattle.sharing.specs.Weighted.{running_share}
 use Rattle.sharing.proofs.equal.calls.EqualSharingRule.give.Given as goal
 
 abbrev pub invariant-loop-k : goal.invariant-loop-k
-invariant-loop-k l = l.row ≡ over l.k (λ k. (equal_by l.self).share k l.amount) l.initial.row
+invariant-loop-k l = l.share-items ≡ over l.k (λ k. running_share (non_zero_u32_get l.self.owners) (λ _. 1) k l.shared.cents) l.initial.share-items
