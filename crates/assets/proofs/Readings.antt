@@ -1,6 +1,5 @@
 -- What the loops read of what is metered.
-use Rattle.std.proofs.Common.{◌≡◌, ℕ, ◌<◌, ◌≤◌, List, length, get_or, map, ℤ, pos, negsuc, nat_abs, sym, ap, ◌∙◌, subst, arith}
-use Rattle.std.proofs.Math.ListN.{get_or-map as get_or-map_default}
+use Rattle.std.proofs.Common.{◌≡◌, ℕ, ◌<◌, ◌≤◌, List, length, get_or, map, ℤ, pos, negsuc, nat_abs, sym, ap, ◌∙◌, arith}
 use Rattle.std.proofs.lemmas.List.{get_or-map, get_or-take}
 use Rattle.interval.specs.Figures.{sent_at, taken_at}
 use Rattle.interval.specs.Metered.{network_of, figures_of}
@@ -36,15 +35,9 @@ below_size : (z : ℤ) → below_0 z ≤ nat_abs z
 below_size (pos n) = omega arith
 below_size (negsuc n) = omega arith
 
-module _ (found : List Estimate) where
-  abbrev nothing : Estimate
-  nothing = record { flow = pos 0; loss = pos 0; residue = pos 0; flow_small = omega arith; residue_small = omega arith }
-
-  pub flows_small : (k : ℕ) → nat_abs (flows_in found k) ≤ 200000
-  flows_small k = subst (λ z. nat_abs z ≤ 200000) (sym (get_or-map_default flow_of found k nothing)) (get_or found k nothing).flow_small
-
+module _ (found : List Estimate) (small : (k : ℕ) → nat_abs (flows_in found k) ≤ 200000) where
   pub above_small : (k : ℕ) → above_0 (flows_in found k) ≤ 200000
-  above_small k = omega (arith, above_size (flows_in found k), flows_small k)
+  above_small k = omega (arith, above_size (flows_in found k), small k)
 
   pub below_small : (k : ℕ) → below_0 (flows_in found k) ≤ 200000
-  below_small k = omega (arith, below_size (flows_in found k), flows_small k)
+  below_small k = omega (arith, below_size (flows_in found k), small k)

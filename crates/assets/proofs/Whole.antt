@@ -18,7 +18,6 @@ use Rattle.assets.specs.Views.{flow_of, loss_of, residue_of}
 use Rattle.assets.specs.declared.estimate.Estimate.{Estimate}
 use Rattle.assets.proofs.Sizes.{side_energy}
 use Rattle.assets.proofs.Estimates.{estimated}
-use Rattle.assets.proofs.Readings.{flows_small}
 use Rattle.assets.proofs.Worked.{stays, one_more, loss_is, flow_of_all, none_too_large, too_large_at}
 
 -- each asset's loss and flow are as the published formulas have them
@@ -41,6 +40,16 @@ kept v f f' found d e low is here others k =
     (λ other. get_or-set_other (map v found) d k (v e) (pos 0) other ∙ is k ∙ others k other)
     (cases_eq k d)
 
+-- that all flows are small
+kept_small : (found : List Estimate) (d : ℕ) (e : Estimate) → d < length found → ((k : ℕ) → nat_abs (flows_in found k) ≤ 200000) → nat_abs e.flow ≤ 200000
+    → (k : ℕ) → nat_abs (flows_in (set found d e) k) ≤ 200000
+kept_small found d e low small here k =
+    let at = ap (λ xs. get_or xs k (pos 0)) (map-set flow_of found d e) in
+    ⊎_elim
+    (λ same. omega (arith, here, ap nat_abs (at ∙ ap (λ j. get_or (set (map flow_of found) d e.flow) j (pos 0)) same ∙ get_or-set_same (map flow_of found) d e.flow (pos 0) (omega (arith, length-map found flow_of)))))
+    (λ other. omega (arith, small k, ap nat_abs (at ∙ get_or-set_other (map flow_of found) d k e.flow (pos 0) other)))
+    (cases_eq k d)
+
 module _ (net : Network) (fig : Figures) (d : ℕ) (low : d < length net.dnas) where
   found_here : (f : ℕ → ℤ) → f d ≡ found_from net d f d
   found_here f = grind (arith, nat_tests)
@@ -61,6 +70,7 @@ module _ (net : Network) (fig : Figures) (d : ℕ) (low : d < length net.dnas) w
           flows = kept flow_of (flows_from net fig (d + 1)) (flows_from net fig d) found d e room before.flows
               (is.flow_is ∙ ap (λ u. flow_with net fig u d) upstream ∙ sym (one_more net fig d d low ∙ cond-true _ _ _ (eq-eqb d d refl)))
               (λ k other. sym (one_more net fig d k low ∙ cond-false _ _ _ (ne_eqb k d other)));
+          small = kept_small found d e room before.small is.flow_small;
           losses = kept loss_of (found_from net (d + 1) (dna_loss net fig)) (found_from net d (dna_loss net fig)) found d e room before.losses
               (loss ∙ found_here (dna_loss net fig))
               (found_others (dna_loss net fig));
@@ -74,7 +84,7 @@ module _ (net : Network) (fig : Figures) (d : ℕ) (low : d < length net.dnas) w
     refused_at large =
         let here : dna_flow net fig d ≡ flow_with net fig (flows_in found) d = stays net fig d d (omega arith) (omega arith) ∙ one_more net fig d d low ∙ cond-true _ _ _ (eq-eqb d d refl) ∙ sym (ap (λ u. flow_with net fig u d) upstream) in
         let first = too_large_at net fig (length net.dnas) d low (omega (arith, ap nat_abs here))
-        (λ k p q. omega (arith, flows_small found k, ap nat_abs (before.flows k ∙ sym (stays net fig (d + 1) k (omega arith) (omega arith))))) in
+        (λ k p q. omega (arith, before.small k, ap nat_abs (before.flows k ∙ sym (stays net fig (d + 1) k (omega arith) (omega arith))))) in
         rw (first, estimates) refl
 
 -- ---- the answer
@@ -101,7 +111,7 @@ module _ (net : Network) (fig : Figures) where
 
     pub done_all : done (record { flows = map flow_of found; losses = map loss_of found; residues = map residue_of found }) ≡ estimates net fig
     done_all =
-        let none = none_too_large net fig (length net.dnas) (λ k l. omega (arith, flows_small found k, ap nat_abs (is.flows k ∙ sym (stays net fig 0 k (omega arith) (omega arith))))) in
+        let none = none_too_large net fig (length net.dnas) (λ k l. omega (arith, is.small k, ap nat_abs (is.flows k ∙ sym (stays net fig 0 k (omega arith) (omega arith))))) in
         let flows = listed flow_of (flows_from net fig 0) (of_dna net (dna_flow net fig)) is.flows flows_all in
         let losses = listed loss_of (found_from net 0 (dna_loss net fig)) (of_dna net (dna_loss net fig)) is.losses (found_all (dna_loss net fig)) in
         let residues = listed residue_of (found_from net 0 (dna_residue net fig)) (of_dna net (dna_residue net fig)) is.residues (found_all (dna_residue net fig)) in

@@ -1,5 +1,5 @@
 -- What code finds of one asset after the other. Only proofs of code read this page.
-use Rattle.std.specs.Prelude.{◌≡◌, ℕ, ◌-◌, ◌*ℤ◌, ◌<◌, ◌&&◌, List, length, map, ℤ, pos, nat_le, nat_lt, slice_index_or, unsigned_abs}
+use Rattle.std.specs.Prelude.{◌≡◌, ℕ, ◌-◌, ◌*ℤ◌, ◌<◌, ◌≤◌, ◌&&◌, List, length, map, ℤ, pos, nat_le, nat_lt, slice_index_or, unsigned_abs}
 use Rattle.units.specs.Sums.{when}
 use Rattle.units.specs.declared.refusal.Refusal.{Refusal}
 use Rattle.units.specs.declared.refusal.Refusal.TheVariants.{FlowTooLarge}
@@ -17,6 +17,7 @@ flows_in found d = slice_index_or (map flow_of found) d (pos 0)
 module _ (net : Network) (fig : Figures) (upstream : ℕ → ℤ) (d : ℕ) where
   pub record Estimates (e : Estimate) : Type 0 where
     pub flow_is : e.flow ≡ flow_with net fig upstream d
+    pub flow_small : unsigned_abs e.flow ≤ 200000
     pub loss_is : e.loss ≡ loss_with net fig upstream d
     pub residue_is : e.residue ≡ loss_with net fig upstream d *ℤ price fig (dna_at net d).region
 
@@ -35,5 +36,6 @@ found_from net first f d = when (nat_le first d && nat_lt d (length net.dnas)) (
 pub record Worked (net : Network) (fig : Figures) (first : ℕ) (found : List Estimate) : Type 0 where
   pub slots : length found ≡ 8
   pub flows : (d : ℕ) → flows_in found d ≡ flows_from net fig first d
+  pub small : (d : ℕ) → unsigned_abs (flows_in found d) ≤ 200000
   pub losses : (d : ℕ) → slice_index_or (map loss_of found) d (pos 0) ≡ found_from net first (dna_loss net fig) d
   pub residues : (d : ℕ) → slice_index_or (map residue_of found) d (pos 0) ≡ found_from net first (dna_residue net fig) d

@@ -1,5 +1,5 @@
 // One asset, where all assets upstream of it are worked.
-ghost use Rattle.std.specs.Prelude.{◌≡◌, ◌<◌, length, MatchResult};
+ghost use Rattle.std.specs.Prelude.{◌≡◌, ℕ, ◌<◌, ◌≤◌, length, unsigned_abs, MatchResult};
 ghost use Rattle.interval.specs.Figures.{sent_at, taken_at};
 ghost use Rattle.interval.specs.Metered.{network_of, figures_of};
 ghost use Rattle.assets.specs.Assets.{senders, takers};
@@ -39,6 +39,7 @@ impl<'a> Asset<'a> {
 
     // The same with the flows of the assets directly upstream, at their boundaries' factors.
     fn sides(&self, found: &[Estimate; 8]) -> Sides
+        requires { (k : ℕ) → unsigned_abs (flows_in found.now k) ≤ 200000 }
         ensures { Feeding (senders (network_of self.now.metered) (figures_of self.now.metered) (flows_in found.now) self.now.number) (takers (network_of self.now.metered) (figures_of self.now.metered) (flows_in found.now) self.now.number) result }
     {
         let mut sides = self.points();
@@ -53,6 +54,7 @@ impl<'a> Asset<'a> {
 
     // What the asset does, or the refusal of a flow that is too large.
     pub(crate) fn estimate(&self, found: &[Estimate; 8]) -> Result<Estimate, Refusal>
+        requires { (k : ℕ) → unsigned_abs (flows_in found.now k) ≤ 200000 }
         ensures { MatchResult result (Estimates (network_of self.now.metered) (figures_of self.now.metered) (flows_in found.now) self.now.number) (TooLarge (network_of self.now.metered) (figures_of self.now.metered) (flows_in found.now) self.now.number) }
     {
         let dna = self.metered.grid.grid.entry_at::<Dna>(self.number);
@@ -60,6 +62,8 @@ impl<'a> Asset<'a> {
             sides: self.sides(found),
             boundary: dna.boundary,
         };
+        // By `as`, here and below: an asset's number is below 8, a `u32` fits in a `usize`, and `try_from` would need
+        // an answer for what cannot happen.
         let too_large = Refusal::FlowTooLarge(self.number as u32);
         let flow = balance.flow().ok_or(too_large)?;
         let loss = balance.loss();

@@ -24,6 +24,7 @@ impl Balance {
         ensures { result ≡ (pos (larger_of self.sides).energy *ℤ pos self.boundary) -ℤ pos (larger_of self.sides).at_own }
     {
         let larger = self.sides.larger();
+        // By `as`: it is at most 18,000 times the energy, and `try_from` would need an answer for what cannot happen.
         i64::from(larger.energy) * i64::from(self.boundary) - larger.at_own as i64
     }
 

@@ -8,10 +8,10 @@ pub struct Estimate {
     pub flow: i32,
     pub loss: i64,
     pub residue: i64,
-    ghost flow_small: { unsigned_abs flow ≤ 200000 },
     ghost residue_small: { unsigned_abs residue ≤ 115200000000000000 },
 }
 
+// By hand, since a type with a ghost field derives no `Default`.
 impl Default for Estimate {
     ghost is_default = { λ e. (e.flow ≡ pos 0) × (e.loss ≡ pos 0) × (e.residue ≡ pos 0) };
 

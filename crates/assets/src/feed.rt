@@ -10,6 +10,7 @@ pub struct Feed {
     ghost light: { at_own ≤ 18000 * energy },
 }
 
+// By hand, since a type with a ghost field derives no `Default`.
 impl Default for Feed {
     ghost is_default = { λ f. (f.energy ≡ 0) × (f.at_own ≡ 0) };
 

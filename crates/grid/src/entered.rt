@@ -12,13 +12,15 @@ pub trait Entered: Entry + Default {
     // The entry of zeros.
     ghost zero: { Self };
 
-    // The entries of this kind.
+    // The entries of this kind, in a network.
     ghost roll: { Network → List Self };
 
+    // The grid's entries of this kind.
     fn entered(grid: &Grid) -> &[Self]
         ensures value { result.now ≡ roll (of_grid grid.now) }
         ensures few { length result.now ≤ 128 };
 
+    // A default entry is the entry of zeros.
     ghost only_zero: { (e : Self) → Self.is_default e → e ≡ zero };
 }
 

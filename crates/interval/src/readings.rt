@@ -19,6 +19,7 @@ fn store(readings: &mut [Reading; 128], word: Word)
     ensures sent { map sent_of readings.new ≡ (if nat_eq (kind word.0) sent_kind then slice_set (map sent_of readings.old) (point word.0) (energy word.0) else map sent_of readings.old) }
     ensures taken { map taken_of readings.new ≡ (if nat_eq (kind word.0) sent_kind then map taken_of readings.old else slice_set (map taken_of readings.old) (point word.0) (energy word.0)) }
 {
+    // By `as`: a `u32` fits in a `usize`.
     let point = word.point() as usize;
     if word.is(Kind::Sent) {
         readings[point].sent = word.energy();

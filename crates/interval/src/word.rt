@@ -44,6 +44,7 @@ pub(crate) fn figure_at(words: &[u32], j: usize, i: usize, form: Form) -> Result
     if !word.is(form.kind) {
         return Err(Refusal::KindNotAllowed(j));
     }
+    // By `as`, here and below: a `u32` fits in a `usize`, and `try_from` would need an answer for what cannot happen.
     if word.ordinal() as usize != i {
         return Err(Refusal::OutOfOrder(j));
     }

@@ -24,6 +24,7 @@ fn index(link: u32, direction: Direction) -> usize
     ensures at { result ≡ index link direction }
     ensures within { result < 16 }
 {
+    // By `as`: a `u32` fits in a `usize`, and `try_from` would need an answer for what cannot happen.
     2 * link as usize + usize::from(direction)
 }
 

@@ -28,6 +28,7 @@ fn first_out(fits: &[bool]) -> Option<u32>
     requires { length fits.now ≤ 4 }
     ensures { result ≡ first_out 0 fits.now }
 {
+    // By `as`: at most 4, and `try_from` would need an answer for what cannot happen.
     first_false(fits).map(|i| i as u32)
 }
 
@@ -35,6 +36,7 @@ fn first_out(fits: &[bool]) -> Option<u32>
 fn numbered(field: u32) -> Option<usize>
     ensures { result ≡ numbered field }
 {
+    // By `as`: a `u32` fits in a `usize`.
     (field as usize).checked_sub(1)
 }
 
@@ -58,9 +60,9 @@ pub struct Link {
     pub part1: u32,
 }
 
-// A connection point with its meter. `dna` is the number plus one of its designated network asset, or 0 for none: a number, as
-// a caller over the C interface hands it in, so that one out of range can be refused by its place; `asset` reads it. `marginal`
-// and `distribution` are loss factors in ten-thousandths.
+// A connection point with its meter. `dna` is the number plus one of its designated network asset, or 0 for none: a
+// number, as a caller over the C interface hands it in, so that one out of range can be refused by its place; `asset`
+// reads it. `marginal` and `distribution` are loss factors in ten-thousandths.
 #[derive(Clone, Copy, Default, PartialEq, Eq)]
 pub struct Point {
     pub region: u32,
@@ -85,9 +87,9 @@ impl Point {
     }
 }
 
-// A designated network asset. `downstream` is the number plus one of the asset downstream, or 0 for the existing network, a
-// number for the same reason; `below` reads it. `boundary` is the marginal factor of the downstream boundary in
-// ten-thousandths.
+// A designated network asset. `downstream` is the number plus one of the asset downstream, or 0 for the existing
+// network, a number for the same reason; `below` reads it. `boundary` is the marginal factor of the downstream boundary
+// in ten-thousandths.
 #[derive(Clone, Copy, Default, PartialEq, Eq)]
 pub struct Dna {
     pub region: u32,

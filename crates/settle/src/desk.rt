@@ -7,8 +7,8 @@ use losses::segments::Segments;
 use losses::split::Split;
 use sharing::derogation::Derogation;
 use sharing::equal::Equal;
-use sharing::nearest::Nearest;
-use sharing::running::Running;
+use sharing::method::Method;
+use sharing::weighted::Weighted;
 use units::refusal::Refusal;
 
 pub type Book = Split<AnyBook, Split<AnyBook, AnyBook>>;
@@ -57,6 +57,13 @@ impl Desk {
     }
 }
 
+// A rule by these weights.
+fn weighted<M: Method>(weights: &[u32]) -> Result<Weighted<M>, Refusal> {
+    let mut rule = Weighted::new();
+    rule.fill(weights)?;
+    Ok(rule)
+}
+
 fn filled(kind: RuleKind, numbers: &[u32]) -> Result<AnyRule, Refusal> {
     match kind {
         RuleKind::Equal => {
@@ -67,16 +74,8 @@ fn filled(kind: RuleKind, numbers: &[u32]) -> Result<AnyRule, Refusal> {
             rule.fill(*owners)?;
             Ok(AnyRule::Equal(rule))
         }
-        RuleKind::Running => {
-            let mut rule = Running::new();
-            rule.fill(numbers)?;
-            Ok(AnyRule::Running(rule))
-        }
-        RuleKind::Nearest => {
-            let mut rule = Nearest::new();
-            rule.fill(numbers)?;
-            Ok(AnyRule::Nearest(rule))
-        }
+        RuleKind::Running => Ok(AnyRule::Running(weighted(numbers)?)),
+        RuleKind::Nearest => Ok(AnyRule::Nearest(weighted(numbers)?)),
     }
 }
 

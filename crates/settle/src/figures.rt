@@ -4,7 +4,7 @@ ghost use Rattle.std.specs.Prelude.{◌<◌, ◌^◌};
 use crate::script::Fault;
 use std::alloc::Global;
 
-// The kind of a word.
+// The kind of a word. The box reads more kinds than a command writes, and its own type for them stays inside it.
 #[derive(Clone, Copy)]
 enum Kind {
     Opening = 1,
@@ -17,10 +17,12 @@ enum Kind {
 fn word(kind: Kind, number: u32) -> u32
     requires { number < 2 ^ 28 }
 {
+    // By `as`, here and below: each fits, and `try_from` would need an answer for what cannot happen.
     ((kind as u32) << 28) + number
 }
 
-// The word of a region's or link's figure: the number of the region or link in 4 bits, and the figure in 24, in two's complement.
+// The word of a region's or link's figure: 4 bits for the number of the region or link, and 24 for the figure, in two's
+// complement.
 fn figure_word(kind: Kind, i: usize, figure: i64) -> Result<u32, Fault> {
     if i > 15 || figure < -0x80_0000 || figure > 0x7f_ffff {
         return Err(Fault::BadNumber);
@@ -50,7 +52,8 @@ pub fn interval_words(heap: Global, words: &[&str]) -> Result<Vec<u32>, Fault> {
     all.push(word(Kind::Opening, 0))?;
     push_figures(&mut all, Kind::Price, prices)?;
     push_figures(&mut all, Kind::Flow, flows)?;
-    // As many words are before it: one for each figure, and the opening one.
+    // The closing word's number is the count of the words before it: the opening word and a word for each figure. It is
+    // `words.len()`, since `prices` is a word of the command too.
     all.push(word(Kind::Closing, words.len() as u32))?;
     Ok(all)
 }

@@ -55,6 +55,7 @@ pub fn flows<B: LossBook>(rt: &HostRuntime, links: &Links<B>) -> io::Result<()> 
     let metered = links.metered;
     for (link, flow) in metered.interval.flows.iter().enumerate() {
         if let Some(c) = links.carried(link) {
+            // By `as`: a link's number is below 8, and `try_from` would need an answer for what cannot happen.
             let loss = links.book.loss(link as u32, *flow);
             println!(rt;
                 "link {link} from {} to {} loss {loss} entry {} exit {}",
@@ -92,6 +93,7 @@ fn regions(rt: &HostRuntime, metered: Metered, sums: &Interchange) -> io::Result
 
 // The shares of an amount, or that the rule has too many owners to show.
 pub fn shares(rt: &HostRuntime, rule: &Pile, amount: i64) -> io::Result<()> {
+    // By `as`: a `u32` fits in a `usize`.
     let owners = rule.owners() as usize;
     if owners > 64 {
         return println!(rt; "share {amount}: over 64 owners");

@@ -154,10 +154,7 @@ fn fields<const N: usize>(words: &[&str]) -> Result<[u32; N], Fault> {
 
 // The words of a line, without its comment.
 fn words(line: &str) -> SplitWhitespace<'_> {
-    let text = match line.split_once('#') {
-        Some((before, _)) => before,
-        None => line,
-    };
+    let text = line.split_once('#').map_or(line, |(before, _)| before);
     text.split_whitespace()
 }
 

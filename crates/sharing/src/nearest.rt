@@ -28,7 +28,7 @@ impl Weights {
     fn odd_cents(&self, amount: Shareable) -> u64
         ensures { result ≡ of_weights odd_cents (listed self.now.parts) amount.cents }
     {
-        // By place, since a place says that its weight is at most the total.
+        // By place: `fraction` of a place is a part of the total by its type.
         let rests: u64 = (0..self.owners())
             .map(|k| u64::from(self.rest(amount, k)))
             .sum();
@@ -39,8 +39,10 @@ impl Weights {
     fn ahead(&self, amount: Shareable, k: usize) -> u64
         ensures { result ≡ of_weights ahead (listed self.now.parts) amount.cents k }
     {
+        // By place, since a tie is decided by it.
         let own = self.rest(amount, k);
         let before = (0..self.owners()).filter(|j| goes_first(self.rest(amount, *j), *j, own, k));
+        // By `as`: a count fits in a `u64`, and `try_from` would need an answer for what cannot happen.
         before.count() as u64
     }
 }

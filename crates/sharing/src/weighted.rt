@@ -45,6 +45,7 @@ impl<M: Method> SharingRule for Weighted<M> {
     ghost lawful = { weighted_lawful M.Method.share M.Method.lawful };
 
     fn owners(&self) -> u32 {
+        // By `as`: at most 16, and `try_from` would need an answer for what cannot happen.
         self.weights.owners() as u32
     }
 

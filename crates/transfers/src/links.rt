@@ -23,8 +23,8 @@ pub struct Carried {
 }
 
 // What the links sum up to: each region's net export in node units, each corridor's residue in grains, and each
-// corridor's metered flows in kWh. Three arrays: each definition is a list of its own, and an array of pairs would need a `map`
-// in each contract.
+// corridor's metered flows in kWh. Three arrays: each definition is a list of its own, and an array of pairs would need
+// a `map` in each contract.
 #[derive(Clone, Copy)]
 pub struct Interchange {
     pub exports: [i64; 8],
@@ -46,6 +46,8 @@ impl<'a, B: LossBook> Links<'a, B> {
     {
         let grid = &self.metered.grid.grid;
         let entered = grid.entry_at::<Link>(link);
+        // By `as`, here and below: a `u32` fits in a `usize`, a link's number is below 8, and `try_from` would need an
+        // answer for what cannot happen.
         let corridor = grid.entry_at::<Corridor>(entered.corridor as usize);
         let flow = self.metered.flow_over(link);
         let (entry, exit) = ends(flow, entered.part1, self.book.loss(link as u32, flow));

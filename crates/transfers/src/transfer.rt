@@ -7,17 +7,17 @@ const WHOLE: u32 = 10_000;
 // A part of a loss, in ten-thousandths.
 #[derive(Clone, Copy)]
 struct Part {
-    parts: u32,
-    ghost at_most_all: { parts ≤ 10000 },
+    ten_thousandths: u32,
+    ghost at_most_all: { ten_thousandths ≤ 10000 },
 }
 
 impl Part {
     // What the exporting region bears, where region 1 bears `part1`; more than all counts as all.
     fn exporting(flow: i32, part1: u32) -> Part
-        ensures { result.parts ≡ exporting flow (min part1 10000) }
+        ensures { result.ten_thousandths ≡ exporting flow (min part1 10000) }
     {
         let by_region1 = Part {
-            parts: part1.min(WHOLE),
+            ten_thousandths: part1.min(WHOLE),
         };
         if flow > 0 {
             by_region1
@@ -26,20 +26,21 @@ impl Part {
         }
     }
 
+    // What the other region bears.
     fn rest(self) -> Part
-        ensures { result.parts ≡ 10000 - self.parts }
+        ensures { result.ten_thousandths ≡ 10000 - self.ten_thousandths }
     {
         Part {
-            parts: WHOLE - self.parts,
+            ten_thousandths: WHOLE - self.ten_thousandths,
         }
     }
 
     // That part of an energy in kWh, in node units.
     fn of(self, energy: u32) -> i64
-        ensures value { result ≡ pos (self.parts * energy) }
-        ensures small { self.parts * energy ≤ 10000 * energy }
+        ensures value { result ≡ pos (self.ten_thousandths * energy) }
+        ensures small { self.ten_thousandths * energy ≤ 10000 * energy }
     {
-        i64::from(self.parts) * i64::from(energy)
+        i64::from(self.ten_thousandths) * i64::from(energy)
     }
 }
 
@@ -50,7 +51,10 @@ pub(crate) fn ends(flow: i32, part1: u32, loss: u32) -> (i64, i64)
     ensures part { exporting flow (min part1 10000) ≤ 10000 }
 {
     let part = Part::exporting(flow, part1);
-    let carried = Part { parts: WHOLE }.of(flow.unsigned_abs());
+    let carried = Part {
+        ten_thousandths: WHOLE,
+    }
+    .of(flow.unsigned_abs());
     (carried + part.of(loss), carried - part.rest().of(loss))
 }
 

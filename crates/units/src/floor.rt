@@ -16,5 +16,6 @@ pub fn floor(value: i64, by: NonZeroU32) -> i64
 pub fn rest(value: i64, by: NonZeroU32) -> u32
     ensures { result ≡ page.rest value (non_zero_u32_get by) }
 {
+    // By `as`: it is below `by`, and `try_from` would need an answer for what cannot happen.
     value.rem_euclid(i64::from(by.get())) as u32
 }

@@ -100,6 +100,7 @@ impl Refusal {
             | Refusal::RollFull(place)
             | Refusal::Unfit(place)
             | Refusal::RowTooShort(place) => place,
+            // By `as`: a `u32` fits in a `usize`, and `try_from` would need an answer for what cannot happen.
             Refusal::NotNext(place)
             | Refusal::MonthFull(place)
             | Refusal::BrokenReference(place)

@@ -33,6 +33,7 @@ trait Referring: Entered {
 fn refers<E: Entry>(entry: E, number: u32, end: usize) -> bool
     ensures { result ≡ refers (E.unfit entry) number end }
 {
+    // By `as`, here and below: a `u32` fits in a `usize`, and `try_from` would need an answer for what cannot happen.
     entry.unfit_field().is_none() && (number as usize) < end
 }
 
@@ -114,10 +115,7 @@ impl Grid {
     fn names_asset(&self, end: usize, region: u32, asset: Option<usize>) -> bool
         ensures { result ≡ names_asset (of_grid self.now) end region asset }
     {
-        match asset {
-            Some(d) => d < end && self.entry_at::<Dna>(d).region == region,
-            None => true,
-        }
+        asset.is_none_or(|d| d < end && self.entry_at::<Dna>(d).region == region)
     }
 
     // How many points and assets feed asset `n`.
@@ -161,6 +159,7 @@ impl Grid {
     pub fn references(&self) -> Result<(), Refusal>
         ensures { answer result ≡ unless_broken (of_grid self.now) tt }
     {
+        // By `match`: `map_or(Ok(()), ..)` names the good outcome first, and hides that it is one of two.
         match self.first_broken() {
             Some(place) => Err(Refusal::BrokenReference(place)),
             None => Ok(()),

@@ -60,6 +60,7 @@ impl SharingRule for Equal {
 
     fn give(&self, amount: i64, row: &mut [i64]) {
         let shared = Shareable::of(amount);
+        // By `as`: a `u32` fits in a `usize`.
         let count = row.len().min(self.owners.get() as usize);
         for (k, share) in row[..count].iter_mut().enumerate() {
             *share = shared.part(self.of_first(k + 1)).cents - shared.part(self.of_first(k)).cents;

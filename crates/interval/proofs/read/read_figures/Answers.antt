@@ -1,5 +1,4 @@
 use Rattle.std.proofs.Common.{◌≡◌, subst, arith, w32, SFits, rules}
-use Rattle.std.proofs.lemmas.Result.{err_from_is_err_and}
 use Rattle.std.proofs.lemmas.Int.{to_z-of_z}
 use Rattle.interval.specs.Kinds.{number}
 use Rattle.interval.specs.Steps.{Figured}
@@ -8,11 +7,6 @@ use Rattle.interval.proofs.read.read_figures.Goals as goal
 
 pub loop-i-init : goal.loop-i-init
 loop-i-init c = figured_none c.args.words.now c.args.start c.args.n (number c.args.form.kind) c.args.form.low c.args.form.high c.requires.few c.args.form.below c.args.form.above
-
-pub returns-in_err-figure : goal.returns-in_err-figure
-returns-in_err-figure c =
-    let p = err_from_is_err_and c.from_residual.result c.from_residual.ensures.1 in
-    rw (p.1, p.2) (c.loop-i.i, omega arith, c.loop-i.invariant.passed, c.in_err-figure.ensures)
 
 pub loop-i-preserved : goal.loop-i-preserved
 loop-i-preserved c =

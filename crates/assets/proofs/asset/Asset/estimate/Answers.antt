@@ -54,9 +54,7 @@ found c y = at_some (flow_of c) c.flow.result (flow_is c) y
 
 pub invariant_of-result : goal.invariant_of-result
 invariant_of-result c =
-    let f = found (goal.at.invariant_of-result c).After-flow c.in_ok-flow.flow c.in_ok-flow.ensures.ok_part in
     record {
-      flow_small = omega (arith, ap nat_abs (narrow c.in_ok-flow.flow f.1), f.1);
       residue_small = omega (arith, ap nat_abs (product c), product_size c.loss-loss.result c.price_in.result 57600000000 2000000 c.loss-loss.ensures.small c.price_in.ensures.small);
     }
 
@@ -72,6 +70,7 @@ returns c =
     let loss = c.loss-loss.ensures.value s t c.sides.ensures ∙ ap (λ (e : Dna). loss_at s t e.boundary) c.entry_at-dna.ensures in
     record {
       flow_is = narrow c.in_ok-flow.flow f.1 ∙ f.0;
+      flow_small = omega (arith, ap nat_abs (narrow c.in_ok-flow.flow f.1), f.1);
       loss_is = loss_back p ∙ loss;
       residue_is = product p ∙ ap₂ (λ x y. x *ℤ y) loss (c.price_in.ensures.value ∙ ap (λ (e : Dna). price fig e.region) c.entry_at-dna.ensures);
     }

@@ -50,7 +50,7 @@ add-requires-clause-sent_room c =
     let m = c.args.self.now.metered in
     let e = (goal.at.add-requires-clause-sent_room c).After-eq in
     let is = c.sent.ensures ∙ ap above_0 (flow e) in
-    omega (arith, is, asset_room m c.args.self.now.number c.args.self.now.entered (sent_at (figures_of m)) (sent_small m) (length c.loop-dna.yielded) c.loop-dna.sides.senders (λ k. above_0 (flows_in c.args.found.now k)) (above_small c.args.found.now) (turn e).0 c.loop-dna.invariant.0 (feeds e ∙ c.if-eq.true))
+    omega (arith, is, asset_room m c.args.self.now.number c.args.self.now.entered (sent_at (figures_of m)) (sent_small m) (length c.loop-dna.yielded) c.loop-dna.sides.senders (λ k. above_0 (flows_in c.args.found.now k)) (above_small c.args.found.now c.requires) (turn e).0 c.loop-dna.invariant.0 (feeds e ∙ c.if-eq.true))
 
 pub add-requires-clause-own : goal.add-requires-clause-own
 add-requires-clause-own c = omega (arith, own_high (goal.at.add-requires-clause-own c).After-eq, c.from.ensures)
@@ -60,7 +60,7 @@ add-requires-clause-taken_room c =
     let m = c.args.self.now.metered in
     let e = (goal.at.add-requires-clause-taken_room c).After-eq in
     let is = c.taken.ensures ∙ ap below_0 (flow e) in
-    omega (arith, is, asset_room m c.args.self.now.number c.args.self.now.entered (taken_at (figures_of m)) (taken_small m) (length c.loop-dna.yielded) c.loop-dna.sides.takers (λ k. below_0 (flows_in c.args.found.now k)) (below_small c.args.found.now) (turn e).0 c.loop-dna.invariant.1 (feeds e ∙ c.if-eq.true))
+    omega (arith, is, asset_room m c.args.self.now.number c.args.self.now.entered (taken_at (figures_of m)) (taken_small m) (length c.loop-dna.yielded) c.loop-dna.sides.takers (λ k. below_0 (flows_in c.args.found.now k)) (below_small c.args.found.now c.requires) (turn e).0 c.loop-dna.invariant.1 (feeds e ∙ c.if-eq.true))
 
 pub loop-dna-preserved-then-eq : goal.loop-dna-preserved-then-eq
 loop-dna-preserved-then-eq c =

@@ -5,21 +5,12 @@ use Rattle.units.proofs.Ring.{nat_abs--ℤ}
 use Rattle.transfers.proofs.LinkSums.{residue_is}
 use Rattle.transfers.proofs.links.Links.residue_of.Goals as goal
 
-pub worth-requires : goal.worth-requires
-worth-requires g c = let is = c.requires in omega (arith, ints)
-
-pub worth-requires-2 : goal.worth-requires-2
-worth-requires-2 g c = let is = c.requires in omega (arith, ints)
-
 sizes : (g : _) (c : goal.After-worth-2 g) → (nat_abs c.worth.result ≤ 8000000000000000) × (nat_abs c.worth-2.result ≤ 8000000000000000)
 sizes g c =
     let is = c.requires in
     let out = ap nat_abs (small_back c.args.c.now.exit (omega arith)) in
     let came = ap nat_abs (small_back c.args.c.now.entry (omega arith)) in
     (omega (arith, c.worth.ensures.small), omega (arith, c.worth-2.ensures.small))
-
-pub overflow_sub-result : goal.overflow_sub-result
-overflow_sub-result g c = let small = sizes g c in difference_fits c.worth.result c.worth-2.result (omega arith)
 
 pub returns : goal.returns
 returns g c =
