@@ -1,4 +1,4 @@
-ghost use Rattle.std.specs.Prelude.{◌≡◌, ◌++◌, [], ◌∷◌, length, take, nat_le, cond, MatchResult, ◌<◌};
+ghost use Rattle.std.specs.Prelude.{◌≡◌, ◌++◌, [], ◌∷◌, length, take, nat_le, cond, MatchResult, ◌<◌, ⊤};
 ghost use Rattle.std.specs.Option.{option_map};
 ghost use Rattle.std.specs.List.{slice_get};
 ghost use Rattle.units.specs.FixedLists.{listed};
@@ -8,6 +8,10 @@ use std::alloc::AllocError;
 
 // By hand, since a generic struct with a ghost field derives no `Clone`.
 impl<T: Copy, const N: usize> Clone for FixedList<T, N> {
+    ghost is_clone = { λ x y. y ≡ x };
+
+    ghost is_infallible = { λ _. ⊤ };
+
     fn clone(&self) -> Result<Self, AllocError> {
         Ok(*self)
     }
