@@ -30,6 +30,9 @@ module _ (net : Network) (h : Holds net) (i : ℕ) where
   pub link_part : (link_at net i).part1 ≤ 10000
   link_part = at_every (λ l. l.part1 ≤ 10000) net.links no_link i (omega arith) (λ l. (link_entry net h i l).part)
 
+  pub point_low : (point_at net i).region < 8
+  point_low = at_every (λ p. p.region < 8) net.points no_point i (omega arith) (λ l. (point_entry net h i l).low)
+
   pub point_marginal : (point_at net i).marginal ≤ 15000
   point_marginal = at_every (λ p. p.marginal ≤ 15000) net.points no_point i (omega arith) (λ l. (point_entry net h i l).marginal_high)
 
@@ -38,6 +41,9 @@ module _ (net : Network) (h : Holds net) (i : ℕ) where
 
   pub factor_high : factor (point_at net i) ≤ 18000
   factor_high = omega (arith, mul-le-mul point_marginal point_distribution)
+
+  pub dna_low : (dna_at net i).region < 8
+  dna_low = at_every (λ d. d.region < 8) net.dnas no_dna i (omega arith) (λ l. (dna_entry net h i l).low)
 
   pub dna_boundary : (dna_at net i).boundary ≤ 15000
   dna_boundary = at_every (λ d. d.boundary ≤ 15000) net.dnas no_dna i (omega arith) (λ l. (dna_entry net h i l).boundary_high)
