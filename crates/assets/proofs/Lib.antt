@@ -2,6 +2,7 @@ pub mod Worked
 pub mod Sizes
 pub mod Estimates
 pub mod Feeding
+pub mod Passing
 pub mod Readings
 pub mod Balances
 pub mod Limits

@@ -11,7 +11,7 @@ use Rattle.register.specs.Contents.{Network}
 use Rattle.grid.specs.References.{Holds, dna_at}
 use Rattle.grid.proofs.References.{dna_entry}
 use Rattle.interval.specs.Figures.{Figures, price, sent_at, taken_at}
-use Rattle.assets.specs.Assets.{senders, takers, above_0, below_0, worked_flows, flow_with, loss_with, dna_flow, dna_loss, dna_residue, of_dna, estimates}
+use Rattle.assets.specs.Assets.{senders, takers, above_0, below_0, worked_flows, flow_with, dna_flow, dna_loss, dna_residue, of_dna, estimates}
 use Rattle.assets.specs.Laws.{Estimated, AssetEstimated}
 use Rattle.assets.specs.Estimates.{flows_in, Estimates, flows_from, found_from, Worked}
 use Rattle.assets.specs.Views.{flow_of, loss_of, residue_of}
@@ -58,17 +58,14 @@ module _ (net : Network) (fig : Figures) (d : ℕ) (low : d < length net.dnas) w
   found_others f k other = grind (arith, nat_tests)
 
   module _ (found : List Estimate) (before : Worked net fig (d + 1) found) where
-    upstream : flows_in found ≡ flows_from net fig (d + 1)
-    upstream i k = before.flows k i
-
-    pub worked_more : Holds net → d < 8 → (e : Estimate) → Estimates net fig (flows_in found) d e → Worked net fig d (set found d e)
+    pub worked_more : Holds net → d < 8 → (e : Estimate) → Estimates net fig (flows_from net fig (d + 1)) d e → Worked net fig d (set found d e)
     worked_more h few e is =
         let room : d < length found = omega (arith, before.slots) in
-        let loss : e.loss ≡ dna_loss net fig d = is.loss_is ∙ ap (λ u. loss_with net fig u d) upstream ∙ sym (loss_is net fig h d low) in
+        let loss : e.loss ≡ dna_loss net fig d = is.loss_is ∙ sym (loss_is net fig h d low) in
         record {
           slots = length-set found d e ∙ before.slots;
           flows = kept flow_of (flows_from net fig (d + 1)) (flows_from net fig d) found d e room before.flows
-              (is.flow_is ∙ ap (λ u. flow_with net fig u d) upstream ∙ sym (one_more net fig d d low ∙ cond-true _ _ _ (eq-eqb d d refl)))
+              (is.flow_is ∙ sym (one_more net fig d d low ∙ cond-true _ _ _ (eq-eqb d d refl)))
               (λ k other. sym (one_more net fig d k low ∙ cond-false _ _ _ (ne_eqb k d other)));
           small = kept_small found d e room before.small is.flow_small;
           losses = kept loss_of (found_from net (d + 1) (dna_loss net fig)) (found_from net d (dna_loss net fig)) found d e room before.losses
@@ -80,9 +77,9 @@ module _ (net : Network) (fig : Figures) (d : ℕ) (low : d < length net.dnas) w
         }
 
     -- an asset whose flow is too large, where those above it are not
-    pub refused_at : 200000 < nat_abs (flow_with net fig (flows_in found) d) → turned_down (refused 9 InNetwork d) ≡ estimates net fig
+    pub refused_at : 200000 < nat_abs (flow_with net fig (flows_from net fig (d + 1)) d) → turned_down (refused 9 InNetwork d) ≡ estimates net fig
     refused_at large =
-        let here : dna_flow net fig d ≡ flow_with net fig (flows_in found) d = stays net fig d d (omega arith) (omega arith) ∙ one_more net fig d d low ∙ cond-true _ _ _ (eq-eqb d d refl) ∙ sym (ap (λ u. flow_with net fig u d) upstream) in
+        let here : dna_flow net fig d ≡ flow_with net fig (flows_from net fig (d + 1)) d = stays net fig d d (omega arith) (omega arith) ∙ one_more net fig d d low ∙ cond-true _ _ _ (eq-eqb d d refl) in
         let first = too_large_at net fig (length net.dnas) d low (omega (arith, ap nat_abs here))
         (λ k p q. omega (arith, before.small k, ap nat_abs (before.flows k ∙ sym (stays net fig (d + 1) k (omega arith) (omega arith))))) in
         rw (first, estimates) refl

@@ -1,5 +1,5 @@
 -- Assets that are worked from the highest number down.
-use Rattle.std.proofs.Common.{◌≡◌, ℕ, zero, suc, ◌+◌, ◌-◌, ◌<◌, ◌≤◌, Bool, true, false, cond, eqb, leb, length, ℤ, ◌+ℤ◌, nat_abs, Some, None, Option, sym, refl, ap, ◌∙◌, ap₂, ⊎_elim, add-zero, add-suc, add-one, arith}
+use Rattle.std.proofs.Common.{◌≡◌, ℕ, zero, suc, ◌+◌, ◌-◌, ◌<◌, ◌≤◌, Bool, true, false, cond, eqb, leb, length, ℤ, pos, ◌+ℤ◌, nat_abs, Some, None, Option, sym, refl, ap, ◌∙◌, ap₂, ⊎_elim, add-zero, add-suc, add-one, arith}
 use Rattle.std.proofs.lemmas.Bool.{cases_eq, eq-eqb, ne_eqb, eqb-true, le-leb, lt-leb, cond-true, cond-false}
 use Rattle.units.specs.Sums.{total, when}
 use Rattle.units.proofs.Totals.{total_ext}
@@ -27,6 +27,13 @@ module _ (net : Network) (fig : Figures) where
       let w = length net.dnas - first in
       let all : length net.dnas ≡ w + first = omega arith in
       ap (λ n. worked_flows net fig n k) all ∙ worked_stays w first k (omega arith) (omega arith)
+
+  not_worked : (w k : ℕ) → w ≤ length net.dnas → k < length net.dnas - w → worked_flows net fig w k ≡ pos 0
+  not_worked zero k fits low = refl
+  not_worked (suc w) k fits low = cond-false _ _ _ (ne_eqb k (length net.dnas - suc w) (omega arith)) ∙ not_worked w k (omega arith) (omega arith)
+
+  pub unworked : (first k : ℕ) → first ≤ length net.dnas → k < first → flows_from net fig first k ≡ pos 0
+  unworked first k fits low = not_worked (length net.dnas - first) k (omega arith) (omega arith)
 
   pub one_more : (d k : ℕ) → d < length net.dnas → flows_from net fig d k ≡ cond (eqb k d) (flow_with net fig (flows_from net fig (d + 1)) d) (flows_from net fig (d + 1) k)
   one_more d k low =

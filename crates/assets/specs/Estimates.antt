@@ -1,12 +1,16 @@
 -- What code finds of one asset after the other. Only proofs of code read this page.
-use Rattle.std.specs.Prelude.{◌≡◌, ℕ, ◌-◌, ◌*ℤ◌, ◌<◌, ◌≤◌, ◌&&◌, List, length, map, ℤ, pos, nat_le, nat_lt, slice_index_or, unsigned_abs}
+use Rattle.std.specs.Prelude.{◌≡◌, ℕ, ◌+◌, ◌-◌, ◌*ℤ◌, ◌<◌, ◌≤◌, ◌&&◌, List, length, map, ℤ, pos, nat_le, nat_lt, slice_index_or, unsigned_abs}
 use Rattle.units.specs.Sums.{when}
 use Rattle.units.specs.declared.refusal.Refusal.{Refusal}
 use Rattle.units.specs.declared.refusal.Refusal.TheVariants.{FlowTooLarge}
 use Rattle.register.specs.Contents.{Network}
 use Rattle.grid.specs.References.{dna_at}
 use Rattle.interval.specs.Figures.{Figures, price}
-use Rattle.assets.specs.Assets.{flow_with, loss_with, worked_flows, dna_loss, dna_residue}
+use Rattle.interval.specs.Metered.{network_of, figures_of}
+use Rattle.interval.specs.declared.metered.Metered.{Metered}
+use Rattle.assets.specs.Assets.{senders, takers, flow_with, loss_with, worked_flows, dna_loss, dna_residue}
+use Rattle.assets.specs.Sides.{Fed}
+use Rattle.assets.specs.declared.sides.Sides.{Sides}
 use Rattle.assets.specs.Views.{flow_of, loss_of, residue_of}
 use Rattle.assets.specs.declared.estimate.Estimate.{Estimate}
 
@@ -29,6 +33,16 @@ module _ (net : Network) (fig : Figures) (upstream : ℕ → ℤ) (d : ℕ) wher
 
 abbrev pub flows_from : Network → Figures → ℕ → ℕ → ℤ
 flows_from net fig first = worked_flows net fig (length net.dnas - first)
+
+-- the flows of the assets above asset d, where only those are worked
+abbrev pub upstream_of : Metered → ℕ → ℕ → ℤ
+upstream_of m d = flows_from (network_of m) (figures_of m) (d + 1)
+
+-- what feeds each asset, where the assets from `first` on are worked
+abbrev pub FedFrom : Metered → ℕ → List Sides → Type 0
+FedFrom m first =
+    let upstream = flows_from (network_of m) (figures_of m) first in
+    Fed (senders (network_of m) (figures_of m) upstream) (takers (network_of m) (figures_of m) upstream)
 
 abbrev pub found_from : Network → ℕ → (ℕ → ℤ) → ℕ → ℤ
 found_from net first f d = when (nat_le first d && nat_lt d (length net.dnas)) (f d)

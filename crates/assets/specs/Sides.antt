@@ -1,9 +1,9 @@
 -- What code has added up of the energies that feed an asset. Only proofs of code read this page.
-use Rattle.std.specs.Prelude.{◌≡◌, ℕ, ◌+◌, ◌*◌, Bool, cond, length, ℤ, pos, ◌+ℤ◌, ◌-ℤ◌, ◌*ℤ◌, nat_lt}
+use Rattle.std.specs.Prelude.{◌≡◌, ℕ, ◌+◌, ◌*◌, ◌<◌, Bool, cond, List, length, slice_index_or, ℤ, pos, ◌+ℤ◌, ◌-ℤ◌, ◌*ℤ◌, nat_lt}
 use Rattle.units.specs.Sums.{total, when}
 use Rattle.register.specs.Contents.{Network}
 use Rattle.register.specs.Fields.{factor}
-use Rattle.grid.specs.References.{point_at, dna_at, point_feeds, dna_feeds}
+use Rattle.grid.specs.References.{point_at, point_feeds}
 use Rattle.assets.specs.Assets.{Side, energy, at_own, at_difference}
 use Rattle.assets.specs.declared.feed.Feed.{Feed}
 use Rattle.assets.specs.declared.sides.Sides.{Sides}
@@ -42,6 +42,10 @@ and_more side test e own n weight = side weight +ℤ total n (λ i. when (test i
 abbrev pub from_points : Network → (ℕ → ℕ) → ℕ → ℕ → Side
 from_points net at_point d = and_more (λ weight. pos 0) (point_feeds net d) at_point (λ i. factor (point_at net i))
 
--- all its points, and the first m assets of those directly upstream
-abbrev pub from_assets : Network → (ℕ → ℕ) → (ℕ → ℕ) → ℕ → ℕ → Side
-from_assets net at_point at_asset d = and_more (from_points net at_point d (length net.points)) (dna_feeds net d) at_asset (λ m. (dna_at net m).boundary)
+-- what feeds each of eight assets
+abbrev pub Both : Side → Side → Sides → Type 0
+Both sent taken x = Feeds sent x.senders × Feeds taken x.takers
+
+pub record Fed (sent taken : ℕ → Side) (xs : List Sides) : Type 0 where
+  pub slots : length xs ≡ 8
+  pub each : (d : ℕ) → d < 8 → (none : Sides) → Both (sent d) (taken d) (slice_index_or xs d none)

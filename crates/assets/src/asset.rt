@@ -1,10 +1,9 @@
 // One asset, where all assets upstream of it are worked.
-ghost use Rattle.std.specs.Prelude.{◌≡◌, ℕ, ◌<◌, ◌≤◌, length, unsigned_abs, MatchResult};
-ghost use Rattle.interval.specs.Figures.{sent_at, taken_at};
+ghost use Rattle.std.specs.Prelude.{◌≡◌, ℕ, ◌+◌, ◌<◌, ◌≤◌, length, unsigned_abs, MatchResult};
 ghost use Rattle.interval.specs.Metered.{network_of, figures_of};
 ghost use Rattle.assets.specs.Assets.{senders, takers};
-ghost use Rattle.assets.specs.Sides.{Feeds, Feeding, from_points};
-ghost use Rattle.assets.specs.Estimates.{flows_in, Estimates, TooLarge};
+ghost use Rattle.assets.specs.Sides.{Feeding};
+ghost use Rattle.assets.specs.Estimates.{upstream_of, FedFrom, Estimates, TooLarge};
 
 use crate::balance::Balance;
 use crate::estimate::Estimate;
@@ -21,45 +20,42 @@ pub struct Asset<'a> {
     ghost entered: { number < length (network_of metered).dnas },
 }
 
+// What feeds each asset where none is worked yet: what its points sent and took.
+pub(crate) fn of_points(metered: &Metered) -> [Sides; 8]
+    ensures { FedFrom metered.now (length (network_of metered.now).dnas) result }
+{
+    let mut sides = [Sides::default(); 8];
+    let points = metered.grid.grid.points.as_slice();
+    for (point, reading) in points.iter().zip(&metered.interval.readings) {
+        if let Some(asset) = point.asset() {
+            sides[asset].add(reading.sent, reading.taken, point.factor());
+        }
+    }
+    sides
+}
+
 impl<'a> Asset<'a> {
-    // What the asset's points sent and took.
-    fn points(&self) -> Sides
-        ensures senders { Feeds (from_points (network_of self.now.metered) (sent_at (figures_of self.now.metered)) self.now.number (length (network_of self.now.metered).points)) result.senders }
-        ensures takers { Feeds (from_points (network_of self.now.metered) (taken_at (figures_of self.now.metered)) self.now.number (length (network_of self.now.metered).points)) result.takers }
+    // Adds the asset's flow to what feeds the one downstream.
+    pub(crate) fn pass_on(&self, estimate: &Estimate, sides: &mut [Sides; 8])
+        requires fed { FedFrom self.now.metered (self.now.number + 1) sides.old }
+        requires small { (k : ℕ) → unsigned_abs (upstream_of self.now.metered self.now.number k) ≤ 200000 }
+        requires estimated { Estimates (network_of self.now.metered) (figures_of self.now.metered) (upstream_of self.now.metered self.now.number) self.now.number estimate.now }
+        ensures { FedFrom self.now.metered self.now.number sides.new }
     {
-        let mut sides = Sides::default();
-        let points = self.metered.grid.grid.points.as_slice();
-        for (point, reading) in points.iter().zip(&self.metered.interval.readings) {
-            if point.asset() == Some(self.number) {
-                sides.add(reading.sent, reading.taken, point.factor());
-            }
+        let dna = self.metered.grid.grid.entry_at::<Dna>(self.number);
+        if let Some(below) = dna.below() {
+            sides[below].add(estimate.sent(), estimate.taken(), u64::from(dna.boundary));
         }
-        sides
     }
 
-    // The same with the flows of the assets directly upstream, at their boundaries' factors.
-    fn sides(&self, found: &[Estimate; 8]) -> Sides
-        requires { (k : ℕ) → unsigned_abs (flows_in found.now k) ≤ 200000 }
-        ensures { Feeding (senders (network_of self.now.metered) (figures_of self.now.metered) (flows_in found.now) self.now.number) (takers (network_of self.now.metered) (figures_of self.now.metered) (flows_in found.now) self.now.number) result }
-    {
-        let mut sides = self.points();
-        let dnas = self.metered.grid.grid.dnas.as_slice();
-        for (dna, estimate) in dnas.iter().zip(found) {
-            if dna.below() == Some(self.number) {
-                sides.add(estimate.sent(), estimate.taken(), u64::from(dna.boundary));
-            }
-        }
-        sides
-    }
-
-    // What the asset does, or the refusal of a flow that is too large.
-    pub(crate) fn estimate(&self, found: &[Estimate; 8]) -> Result<Estimate, Refusal>
-        requires { (k : ℕ) → unsigned_abs (flows_in found.now k) ≤ 200000 }
-        ensures { MatchResult result (Estimates (network_of self.now.metered) (figures_of self.now.metered) (flows_in found.now) self.now.number) (TooLarge (network_of self.now.metered) (figures_of self.now.metered) (flows_in found.now) self.now.number) }
+    // What the asset does where these sides feed it, or the refusal of a flow that is too large.
+    pub(crate) fn estimate(&self, sides: Sides) -> Result<Estimate, Refusal>
+        requires { Feeding (senders (network_of self.now.metered) (figures_of self.now.metered) (upstream_of self.now.metered self.now.number) self.now.number) (takers (network_of self.now.metered) (figures_of self.now.metered) (upstream_of self.now.metered self.now.number) self.now.number) sides }
+        ensures { MatchResult result (Estimates (network_of self.now.metered) (figures_of self.now.metered) (upstream_of self.now.metered self.now.number) self.now.number) (TooLarge (network_of self.now.metered) (figures_of self.now.metered) (upstream_of self.now.metered self.now.number) self.now.number) }
     {
         let dna = self.metered.grid.grid.entry_at::<Dna>(self.number);
         let balance = Balance {
-            sides: self.sides(found),
+            sides,
             boundary: dna.boundary,
         };
         // By `as`, here and below: an asset's number is below 8, a `u32` fits in a `usize`, and `try_from` would need

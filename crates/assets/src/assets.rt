@@ -6,7 +6,7 @@ ghost use Rattle.assets.specs.Assets.{estimates};
 ghost use Rattle.assets.specs.Laws.{AssetEstimated};
 ghost use Rattle.assets.specs.Views.{of_assets};
 
-use crate::asset::Asset;
+use crate::asset::{Asset, of_points};
 use crate::estimate::Estimate;
 use interval::metered::Metered;
 use units::refusal::Refusal;
@@ -24,14 +24,17 @@ impl Assets {
         ensures value { answer (result_map_both of_assets (λ e. e) result) ≡ estimates (network_of metered.now) (figures_of metered.now) }
         ensures estimated { (d : ℕ) → d < length (network_of metered.now).dnas → AssetEstimated (network_of metered.now) (figures_of metered.now) d }
     {
+        let mut sides = of_points(metered);
         let mut found = [Estimate::default(); 8];
-        // By number, and not over the slots: each asset reads what was found of those above it.
+        // By number, and not over the slots: each asset adds to what feeds the one downstream.
         for number in (0..metered.grid.grid.dnas.len()).rev() {
             let asset = Asset {
                 metered: *metered,
                 number,
             };
-            found[number] = asset.estimate(&found)?;
+            let estimate = asset.estimate(sides[number])?;
+            asset.pass_on(&estimate, &mut sides);
+            found[number] = estimate;
         }
         Ok(Assets { found })
     }

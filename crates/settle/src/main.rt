@@ -3,6 +3,7 @@
 // Runs a script of calls from beginning to end, and prints what each did.
 use register::entry::{Corridor, Dna, Link, Point, Region};
 use register::register::Register;
+use run::Numbered;
 use std::io;
 use std::process::ExitCode;
 
@@ -12,8 +13,8 @@ mod report;
 mod run;
 mod script;
 
-// Runs the lines, with their numbers, over an empty box.
-fn run_box(rt: &HostRuntime, lines: &[(usize, &str)]) -> anyhow::Result<()> {
+// Runs the lines of a box, which begins empty. Answers whether a `clear` ended it.
+fn run_box(rt: &HostRuntime, lines: &mut Numbered) -> anyhow::Result<bool> {
     let mut regions = [Region::default(); 8];
     let mut corridors = [Corridor::default(); 8];
     let mut links = [Link::default(); 8];
@@ -29,15 +30,13 @@ fn run_box(rt: &HostRuntime, lines: &[(usize, &str)]) -> anyhow::Result<()> {
     run::lines(rt, &mut register, lines)
 }
 
-// Each `clear` ends the lines of a box.
 fn settle(rt: &HostRuntime) -> anyhow::Result<()> {
     let text = io::read_to_string(rt.alloc(), rt.stdin())?;
-    let lines: Vec<(usize, &str)> = (1..).zip(text.as_str().lines()).collect(rt.alloc())?;
-    for of_box in lines
-        .as_slice()
-        .split_inclusive(|(_, line)| script::clears(line))
-    {
-        run_box(rt, of_box)?;
+    let mut lines = (1..).zip(text.as_str().lines());
+    for _ in 0..u64::MAX {
+        if !run_box(rt, &mut lines)? {
+            break;
+        }
     }
     Ok(())
 }

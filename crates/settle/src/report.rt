@@ -92,6 +92,7 @@ fn regions(rt: &HostRuntime, metered: Metered, sums: &Interchange) -> io::Result
 }
 
 // The shares of an amount, or that the rule has too many owners to show.
+#[inline(never)]
 pub fn shares(rt: &HostRuntime, rule: &Pile, amount: i64) -> io::Result<()> {
     // By `as`: a `u32` fits in a `usize`.
     let owners = rule.owners() as usize;

@@ -80,7 +80,7 @@ pub enum Command {
 }
 
 // Why a line is no command.
-#[derive(Debug, Drop, Error)]
+#[derive(Clone, Copy, Debug, Error)]
 pub enum Fault {
     #[error("unknown command")]
     UnknownCommand,
@@ -161,12 +161,6 @@ fn words(line: &str) -> SplitWhitespace<'_> {
 // The word that a line begins with, which is its command's name.
 pub fn name(line: &str) -> &str {
     words(line).next().unwrap_or("")
-}
-
-// Whether a line is the command `clear`.
-pub fn clears(line: &str) -> bool {
-    let mut words = words(line);
-    words.next() == Some("clear") && words.next().is_none()
 }
 
 // The command of a line; a line of blanks and comment alone is `Nothing`.

@@ -7,7 +7,7 @@ use Rattle.grid.proofs.Places.{grid_holds, dna_boundary}
 use Rattle.interval.specs.Figures.{price}
 use Rattle.interval.specs.Metered.{network_of, figures_of}
 use Rattle.assets.specs.Assets.{senders, takers, flow_at, flow_with, loss_at}
-use Rattle.assets.specs.Estimates.{flows_in}
+use Rattle.assets.specs.Estimates.{upstream_of}
 use Rattle.assets.proofs.Limits.{limited, at_some, at_none, refusal_is, narrow}
 use Rattle.assets.proofs.asset.Asset.estimate.Goals as goal
 use Rattle.assets.proofs.asset.Asset.estimate.Goals.{After-flow, After-from-price}
@@ -18,16 +18,16 @@ invariant_of-balance c =
     record { high = omega (arith, ap (λ (e : Dna). e.boundary) c.entry_at-dna.ensures, dna_boundary (network_of m) (grid_holds m.grid.now) c.args.self.now.number) }
 
 abbrev flow_of : After-flow → ℤ
-flow_of c = flow_with (network_of c.args.self.now.metered) (figures_of c.args.self.now.metered) (flows_in c.args.found.now) c.args.self.now.number
+flow_of c = flow_with (network_of c.args.self.now.metered) (figures_of c.args.self.now.metered) (upstream_of c.args.self.now.metered c.args.self.now.number) c.args.self.now.number
 
 flow_is : (c : After-flow) → c.flow.result ≡ limited (flow_of c)
 flow_is c =
     let net = network_of c.args.self.now.metered in
     let fig = figures_of c.args.self.now.metered in
     let d = c.args.self.now.number in
-    let s = senders net fig (flows_in c.args.found.now) d in
-    let t = takers net fig (flows_in c.args.found.now) d in
-    c.flow.ensures s t c.sides.ensures ∙ ap (λ (e : Dna). limited (flow_at s t e.boundary)) c.entry_at-dna.ensures
+    let s = senders net fig (upstream_of c.args.self.now.metered c.args.self.now.number) d in
+    let t = takers net fig (upstream_of c.args.self.now.metered c.args.self.now.number) d in
+    c.flow.ensures s t c.requires ∙ ap (λ (e : Dna). limited (flow_at s t e.boundary)) c.entry_at-dna.ensures
 
 pub returns-in_err-flow : goal.returns-in_err-flow
 returns-in_err-flow c =
@@ -64,10 +64,10 @@ returns c =
     let fig = figures_of c.args.self.now.metered in
     let d = c.args.self.now.number in
     let p = (goal.at.returns c).After-from-price in
-    let s = senders net fig (flows_in c.args.found.now) d in
-    let t = takers net fig (flows_in c.args.found.now) d in
+    let s = senders net fig (upstream_of c.args.self.now.metered c.args.self.now.number) d in
+    let t = takers net fig (upstream_of c.args.self.now.metered c.args.self.now.number) d in
     let f = found (goal.at.returns c).After-flow c.in_ok-flow.flow c.in_ok-flow.ensures.ok_part in
-    let loss = c.loss-loss.ensures.value s t c.sides.ensures ∙ ap (λ (e : Dna). loss_at s t e.boundary) c.entry_at-dna.ensures in
+    let loss = c.loss-loss.ensures.value s t c.requires ∙ ap (λ (e : Dna). loss_at s t e.boundary) c.entry_at-dna.ensures in
     record {
       flow_is = narrow c.in_ok-flow.flow f.1 ∙ f.0;
       flow_small = omega (arith, ap nat_abs (narrow c.in_ok-flow.flow f.1), f.1);
