@@ -47,7 +47,9 @@ pub fn lines(
 ) -> anyhow::Result<bool> {
     let mut desk = Desk::new();
     for (number, line) in lines {
-        let command = parse(rt.alloc(), line).context(format_args!("line {number}"))?;
+        let Some(command) = parse(rt.alloc(), line).context(format_args!("line {number}"))? else {
+            continue;
+        };
         let clears = matches!(command, Command::Clear);
         execute(rt, register, &mut desk, line, command)?;
         if clears {
@@ -81,7 +83,6 @@ fn run(
     command: Command,
 ) -> Result<(), Failure> {
     match command {
-        Command::Nothing => {}
         Command::Region(e) => enter(rt, "region", &mut register.regions, e)?,
         Command::Corridor(e) => enter(rt, "corridor", &mut register.corridors, e)?,
         Command::Link(e) => enter(rt, "link", &mut register.links, e)?,

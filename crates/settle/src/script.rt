@@ -62,7 +62,6 @@ pub struct Segment {
 
 #[derive(Drop)]
 pub enum Command {
-    Nothing,
     Region(Region),
     Corridor(Corridor),
     Link(Link),
@@ -163,13 +162,13 @@ pub fn name(line: &str) -> &str {
     words(line).next().unwrap_or("")
 }
 
-// The command of a line; a line of blanks and comment alone is `Nothing`.
-pub fn parse(heap: Global, line: &str) -> Result<Command, Fault> {
+// The command of a line; none where it is blanks and comment alone.
+pub fn parse(heap: Global, line: &str) -> Result<Option<Command>, Fault> {
     let words: Vec<&str> = words(line).collect(heap)?;
     match words.as_slice() {
-        [] => Ok(Command::Nothing),
-        ["try", rest @ ..] => Ok(Command::Try(tried(heap, rest))),
-        [name, rest @ ..] => named(heap, name, rest),
+        [] => Ok(None),
+        ["try", rest @ ..] => Ok(Some(Command::Try(tried(heap, rest)))),
+        [name, rest @ ..] => Ok(Some(named(heap, name, rest)?)),
     }
 }
 
