@@ -42,10 +42,11 @@ and_more side test e own n weight = side weight +ℤ total n (λ i. when (test i
 abbrev pub from_points : Network → (ℕ → ℕ) → ℕ → ℕ → Side
 from_points net at_point d = and_more (λ weight. pos 0) (point_feeds net d) at_point (λ i. factor (point_at net i))
 
--- what feeds each of eight assets
+-- both sides as they are added up
 abbrev pub Both : Side → Side → Sides → Type 0
 Both sent taken x = Feeds sent x.senders × Feeds taken x.takers
 
+-- what feeds each of eight assets
 pub record Fed (sent taken : ℕ → Side) (xs : List Sides) : Type 0 where
   pub slots : length xs ≡ 8
   pub each : (d : ℕ) → d < 8 → (none : Sides) → Both (sent d) (taken d) (slice_index_or xs d none)

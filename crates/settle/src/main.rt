@@ -33,6 +33,7 @@ fn run_box(rt: &HostRuntime, lines: &mut Numbered) -> anyhow::Result<bool> {
 fn settle(rt: &HostRuntime) -> anyhow::Result<()> {
     let text = io::read_to_string(rt.alloc(), rt.stdin())?;
     let mut lines = (1..).zip(text.as_str().lines());
+    // A box for each turn: the last is the one that no `clear` ends.
     for _ in 0..u64::MAX {
         if !run_box(rt, &mut lines)? {
             break;
